@@ -1,0 +1,4 @@
+pub mod Radial
+pub mod Reach
+pub mod Counting
+pub mod First

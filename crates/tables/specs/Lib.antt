@@ -1,0 +1,5 @@
+pub mod Read
+pub mod ReadLaws
+pub mod TableLaws
+pub mod LineLaws
+pub mod LayoutLaws
