@@ -1,0 +1,74 @@
+-- A branch carries no current on a phase that it has not: what is taken at its node is 0 there. Assumes nothing.
+use mathlib.Core.Bool.{Bool, cond, false, true}
+use mathlib.Core.List.{List}
+use mathlib.Core.Path.{_∙_, _≡_, ap₂, refl}
+use Prim.Native.Nat.{_+_, _<_, suc, ℕ}
+use native.Mathlib.Omega.{arith}
+use lib.Dec.{eqb}
+use lib.IntN.{pos, zero-*ℤ}
+use lib.ListN.{getD}
+use borrow.Author.Tests.{eqb-true}
+use Rattle.answers.specs.Answers.{good}
+use Rattle.equations.specs.Equations.{at, loadCurrent, nearCurrent, phaseSigns, signAt, zero3}
+use Rattle.equations.specs.Meets.{at-taken, takenAt}
+use Rattle.equations.specs.ThreeLaws.{at-masked, csum-none}
+use Rattle.feeder.specs.Feeder.{Feeder, branchAt, has, parent, phasesOf, reading, rowCount, rowsOf}
+use Rattle.feeder.specs.FeederLaws.{sound}
+use Rattle.feeder.specs.RowFacts.{OfLoad, branch-facts, load-facts}
+use Rattle.feeder.specs.declared.Load.{Load}
+use Rattle.feeder.specs.declared.Phase.{Phase}
+use Rattle.feeder.specs.declared.Phase.the-variants.{A, B, C}
+use Rattle.feeder.specs.declared.Phases.{Phases}
+use Rattle.feeder.specs.declared.Three.{Three}
+use Rattle.integers.specs.Bools.{clash}
+use Rattle.integers.specs.ListLaws.{all-count, all-map}
+use Rattle.integers.specs.PairLaws.{+c-idr, pair-eq}
+use Rattle.integers.specs.Pairs.{0c, _+c_, scaled}
+use Rattle.integers.specs.declared.Pair.{Pair}
+
+scaled-none : (x : Pair) → scaled (pos 0) x ≡ 0c
+unfolding scaled
+scaled-none x = pair-eq (zero-*ℤ (x .re)) (zero-*ℤ (x .im))
+
+-- a load on phase k takes nothing from a phase that its node has not
+sign-off : (f : Phases) (k p : Phase) (x : Pair) → has f k ≡ true → has f p ≡ false → scaled (signAt (phaseSigns k) p) x ≡ 0c
+sign-off f A A x h n = clash (f .a) h n
+sign-off f A B x h n = scaled-none x
+sign-off f A C x h n = scaled-none x
+sign-off f B A x h n = scaled-none x
+sign-off f B B x h n = clash (f .b) h n
+sign-off f B C x h n = scaled-none x
+sign-off f C A x h n = scaled-none x
+sign-off f C B x h n = scaled-none x
+sign-off f C C x h n = clash (f .c) h n
+
+-- what counts only at one node is none where it is none at that node
+only-there : (n m : ℕ) (x : Pair) → (n ≡ m → x ≡ 0c) → cond (eqb n m) x 0c ≡ 0c
+only-there n m x h = go (eqb n m) refl
+  where
+    go : (c : Bool) → eqb n m ≡ c → cond c x 0c ≡ 0c
+    go true e = h (eqb-true n m e)
+    go false e = refl
+
+masked-off : (c : Bool) (x : Pair) → c ≡ false → cond c x 0c ≡ 0c
+masked-off c x e = rw e
+
+module _ (s : List ℕ) (f : Feeder) (e : reading s ≡ good f) (v i : List Three) (j : ℕ) (p : Phase) (n : has (branchAt f (suc j) .phases) p ≡ false) where
+  load-none : (l : Load) → OfLoad f l → cond (eqb (l .node) (suc j)) (scaled (signAt (phaseSigns (l .phase)) p) (loadCurrent v l)) 0c ≡ 0c
+  unfolding phasesOf
+  load-none l o = only-there (l .node) (suc j) _ (λ z. sign-off (branchAt f (suc j) .phases) (l .phase) p _ (rw z at (o .there)) n)
+
+  branch-none : (k : ℕ) → k < rowCount f → cond (eqb (parent f (suc k)) (suc j)) (at (nearCurrent (branchAt f (suc k)) (getD i (suc k) zero3)) p) 0c ≡ 0c
+  unfolding phasesOf nearCurrent
+  branch-none k q = only-there (parent f (suc k)) (suc j) _ (λ z. at-masked (branchAt f (suc k) .phases) _ p ∙ masked-off (has (branchAt f (suc k) .phases) p) _ (away z (has (branchAt f (suc k) .phases) p) refl))
+    where
+      away : parent f (suc k) ≡ suc j → (c : Bool) → has (branchAt f (suc k) .phases) p ≡ c → c ≡ false
+      away z true h = let y : has (phasesOf f (suc j)) p ≡ true = rw z at (branch-facts s f (sound s f e) k q .under p h) in clash (has (branchAt f (suc j) .phases) p) y n
+      away z false h = refl
+
+  -- of every feeder that is read
+  pub absent-none : at (takenAt f v i (suc j)) p ≡ 0c
+  absent-none = at-taken f v i (suc j) p ∙ ap₂ _+c_
+      (csum-none _ (f .loads) (all-map (f .loads) load-none (load-facts s f (sound s f e))))
+      (csum-none _ (rowsOf f) (all-count _ 1 (rowCount f) (λ k q. let z : 1 + k ≡ suc k = omega arith in rw z (branch-none k q))))
+      ∙ +c-idr 0c

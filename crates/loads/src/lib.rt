@@ -1,0 +1,145 @@
+// Load rows: the current that a row draws at a voltage, and its power. specs/Loads.antt says what is drawn.
+ghost use mathlib.Core.Path.{_≡_};
+ghost use mathlib.Core.Bool.{false};
+ghost use Prim.Native.Nat.{_≤_};
+ghost use lib.IntN.{natAbs};
+ghost use Rattle.integers.specs.Pairs.{_·*_, scaled};
+ghost use Rattle.integers.specs.PairLaws.{Within};
+ghost use Rattle.equations.specs.Equations.{each, mix, phaseSigns, signAt, weight, currentAt};
+ghost use Rattle.equations.specs.Sizes.{Within3};
+ghost use Rattle.equations.specs.Limits.{LoadOk};
+ghost use Rattle.loads.specs.Loads.{drawnBy, lacksVoltage};
+use feeder::Load;
+use feeder::LoadKind;
+use feeder::Phase;
+use feeder::Three;
+use integers::Pair;
+use integers::pairs;
+use integers::whole;
+
+// What a load row draws: a current, or none, by document 01's refusals 30 and 31.
+pub enum Drawn {
+    Taken(Pair),
+    AtZeroVoltage,
+    TooLarge,
+}
+
+// The voltage at the row's phase.
+pub fn voltage_on(l: Load, v: Three) -> Pair
+    ensures { λ r. ⌜ r ≡ mix (phaseSigns (l .phase)) v ⌝ }
+{
+    let phase = l.phase;
+    match phase {
+        Phase::A => v.a,
+        Phase::B => v.b,
+        Phase::C => v.c,
+    }
+}
+
+// The row's current on its phase.
+pub fn spread(l: Load, i: Pair) -> Three
+    ensures { λ r. ⌜ r ≡ each (λ p. scaled (signAt (phaseSigns (l .phase)) p) i) ⌝ }
+{
+    let none = Pair { re: 0, im: 0 };
+    let phase = l.phase;
+    match phase {
+        Phase::A => Three {
+            a: i,
+            b: none,
+            c: none,
+        },
+        Phase::B => Three {
+            a: none,
+            b: i,
+            c: none,
+        },
+        Phase::C => Three {
+            a: none,
+            b: none,
+            c: i,
+        },
+    }
+}
+
+// w, by which conj(S)·V is divided.
+fn weigh(kind: LoadKind, vn: i64, u: Pair) -> u64
+    requires { ⌜ natAbs vn ≤ 4000000 ⌝ }
+    requires { ⌜ Within 4000000 u ⌝ }
+    ensures { λ r. ⌜ r ≡ weight kind vn u ⌝ }
+{
+    match kind {
+        LoadKind::Power => pairs::square(u),
+        LoadKind::Current => {
+            let n = pairs::square(u);
+            let m = whole::root(n);
+            let k = whole::size(vn);
+            m * k
+        }
+        LoadKind::Impedance => {
+            let k = whole::size(vn);
+            k * k
+        }
+    }
+}
+
+// Whether the row needs a voltage and has none.
+fn lacks_voltage(kind: LoadKind, u: Pair) -> bool
+    ensures { λ r. ⌜ r ≡ lacksVoltage kind u ⌝ }
+{
+    match kind {
+        LoadKind::Power => pairs::within(u, 0),
+        LoadKind::Current => pairs::within(u, 0),
+        LoadKind::Impedance => false,
+    }
+}
+
+// conj(S)·V / w, rounded.
+fn current_at(l: Load, u: Pair) -> Pair
+    requires { ⌜ LoadOk l ⌝ }
+    requires { ⌜ Within 4000000 u ⌝ }
+    requires { ⌜ lacksVoltage (l .kind) u ≡ false ⌝ }
+    ensures { λ r. ⌜ r ≡ currentAt l u ⌝ }
+{
+    let kind = l.kind;
+    let w = weigh(kind, l.vn, u);
+    let s = pairs::scale(100000, l.s);
+    let n = pairs::mul_conj(u, s);
+    pairs::round(n, w)
+}
+
+fn drawn_by(l: Load, u: Pair) -> Drawn
+    requires { ⌜ LoadOk l ⌝ }
+    requires { ⌜ Within 4000000 u ⌝ }
+    ensures { λ r. ⌜ r ≡ drawnBy l u ⌝ }
+{
+    let kind = l.kind;
+    if lacks_voltage(kind, u) {
+        return Drawn::AtZeroVoltage;
+    }
+    let i = current_at(l, u);
+    if pairs::within(i, 2000000) {
+        Drawn::Taken(i)
+    } else {
+        Drawn::TooLarge
+    }
+}
+
+// What the row draws at the voltages v of its node.
+pub fn load_current(l: Load, v: Three) -> Drawn
+    requires { ⌜ LoadOk l ⌝ }
+    requires { ⌜ Within3 2000000 v ⌝ }
+    ensures { λ r. ⌜ r ≡ drawnBy l (mix (phaseSigns (l .phase)) v) ⌝ }
+{
+    let u = voltage_on(l, v);
+    drawn_by(l, u)
+}
+
+// V·conj(I) of the row, with I as it draws.
+pub fn load_power(l: Load, v: Three, i: Pair) -> Pair
+    requires { ⌜ Within3 2000000 v ⌝ }
+    requires { ⌜ Within 2000000 i ⌝ }
+    ensures { λ r. ⌜ r ≡ mix (phaseSigns (l .phase)) v ·* i ⌝ }
+{
+    let u = voltage_on(l, v);
+    pairs::mul_conj(u, i)
+}

@@ -1,0 +1,4 @@
+pub mod Passes
+pub mod Arrays
+pub mod Nodes
+pub mod Same

@@ -1,0 +1,20 @@
+-- `work_voltages` meets its contract: the pass downward over the arrays of the feeder. Assumes nothing.
+use Rattle.sweeps.specs.SweepsLaws.{in-arrays, ready, source-fits}
+use borrow.Author.Needs.{needs}
+use native.Mathlib.Omega.{arith}
+use Rattle.sweeps.proofs.work_voltages.Statement.{statement}
+use Rattle.sweeps.proofs.work_voltages.Tie as tie
+use Rattle.sweeps.proofs.work_voltages.Reads as reads
+use Rattle.sweeps.proofs.work_voltages.Lts as lts
+use Rattle.passes.proofs.downward_pass.Reads as downward-pass-reads
+
+downward-pass-requires : tie.Need-downward-pass-requires
+downward-pass-requires c κs =
+    let s = c .before .before .before .before in
+    (ready (s .pre .0), (source-fits (s .pre .0), s .pre .1))
+
+returns : tie.Need-returns
+returns c = ((λ f h. c .downward-pass .ensures .0 f (in-arrays h) (h .source)), c .downward-pass .ensures .1)
+
+pub work-voltages-spec : {M : Type 1} → statement M
+work-voltages-spec = tie.close (tie.spec downward-pass-requires returns)
