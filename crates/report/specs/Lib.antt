@@ -1,0 +1,5 @@
+-- Definitions
+pub mod Report
+-- Laws
+pub mod LinesBack
+pub mod RoundTrip

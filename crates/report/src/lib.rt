@@ -1,0 +1,1 @@
+// The report: its text and its reading. specs/Report.antt says both.

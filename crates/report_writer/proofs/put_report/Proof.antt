@@ -1,0 +1,116 @@
+-- `report_writer::put_report` meets its contract: each table stands behind the one before it. Assumes nothing.
+use borrow.Author.Needs.{needs}
+use mathlib.Core.List.{List}
+use Prim.Native.Nat.{_+_, _-_, _≤_, ℕ}
+use native.Mathlib.Omega.{arith}
+use lib.ListN.{length}
+use borrow.Rule.Slice.PartMut.{putMid}
+use Rattle.report_writer.specs.Left.{rest-room, written-front}
+use Rattle.report_writer.specs.Lines.{branchTable, nodeTable, totalsTable}
+use Rattle.report_writer.specs.ReportIs.{report-is, whole-length}
+use Rattle.report_writer.specs.Tables.{branchLineAt, nodeLineAt, wholeText}
+use Rattle.text.specs.Stores.{written-behind, written-length, written-rest}
+use Rattle.text.specs.Promises.{Written}
+use Rattle.report_writer.proofs.put_report.Statement.{statement}
+use Rattle.report_writer.proofs.put_report.Tie as tie
+
+-- the first two tables
+abbrev nodesDue : tie.Start → List ℕ
+nodesDue c = let a = c .args in nodeTable (nodeLineAt (a .nodes) (a .v)) (a .rows)
+
+abbrev branchesDue : tie.Start → List ℕ
+branchesDue c = let a = c .args in branchTable (branchLineAt (a .nodes) (a .branches) (a .i) (a .losses)) (a .rows)
+
+-- there is room for all three
+room : (c : tie.Start) → length (nodesDue c) + length (branchesDue c) + length (totalsTable (c .args .figures)) ≤ length (c .args .out .now)
+room c = let a = c .args in omega (arith, whole-length (a .nodes) (a .branches) (a .rows) (a .v) (a .i) (a .losses) (a .figures), c .pre .1)
+
+-- and behind the first for two
+room-two : (c : tie.After-put-nodes) → c .put-nodes .result + length (branchesDue (c .before .before .before)) + length (totalsTable (c .before .before .before .args .figures)) ≤ length (c .put-nodes .last .0)
+room-two c = let w = c .put-nodes .ensures in omega (arith, room (c .before .before .before), w .next, written-length w)
+
+-- where the second ends, and what stands then
+abbrev middle : tie.After-put-branches → ℕ
+middle c = c .before .before .before .before .put-nodes .result + c .put-branches .result
+
+abbrev after : tie.After-put-branches → List ℕ
+after c = let p = c .before .before .before .before .put-nodes in putMid (p .result) (length (p .last .0) - p .result) (p .last .0) (c .put-branches .last .0)
+
+second : (c : tie.After-put-branches) → let p = c .before .before .before .before .put-nodes in Written (p .last .0) (p .result) (branchesDue (c .before .before .before .before .before .before .before)) (middle c) (after c)
+second c = written-rest (omega (arith, room-two (c .before .before .before .before))) (c .put-branches .ensures)
+
+room-one : (c : tie.After-put-branches) → middle c + length (totalsTable (c .before .before .before .before .before .before .before .args .figures)) ≤ length (after c)
+room-one c = let w = second c in omega (arith, room-two (c .before .before .before .before), w .next, written-length w)
+
+third : (c : tie.After-put-totals) →
+    let m = middle (c .before .before .before .before) in
+    let l = after (c .before .before .before .before) in
+    Written l m (totalsTable (c .before .before .before .before .before .before .before .before .before .before .before .args .figures)) (m + c .put-totals .result) (putMid m (length l - m) l (c .put-totals .last .0))
+third c = written-rest (omega (arith, room-one (c .before .before .before .before))) (c .put-totals .ensures)
+
+put-nodes-requires : tie.Need-put-nodes-requires
+put-nodes-requires c κs = (c .before .before .pre .0 .few, omega (arith, room (c .before .before)))
+
+sub-put-branches : tie.Need-sub-put-branches
+sub-put-branches c = omega (arith, room-two (c .before .before))
+
+part-put-branches-start : tie.Need-part-put-branches-start
+part-put-branches-start c = omega (arith, room-two (c .before .before))
+
+part-put-branches-end : tie.Need-part-put-branches-end
+part-put-branches-end c = search needs
+
+put-branches-requires : tie.Need-put-branches-requires
+put-branches-requires c κs =
+    let p = c .before .before .before .put-nodes in
+    (c .before .before .before .before .before .before .pre .0 .few, (c .before .before .before .before .before .before .pre .0 .from, rest-room (p .last .0) (p .result) _ (omega (arith, room-two (c .before .before .before)))))
+
+add-middle : tie.Need-add-middle
+add-middle c = omega (arith, room-one (c .before .before))
+
+sub-put-totals : tie.Need-sub-put-totals
+sub-put-totals c = omega (arith, room-one (c .before .before))
+
+part-put-totals-start : tie.Need-part-put-totals-start
+part-put-totals-start c = omega (arith, room-one (c .before .before))
+
+part-put-totals-end : tie.Need-part-put-totals-end
+part-put-totals-end c = search needs
+
+put-totals-requires : tie.Need-put-totals-requires
+put-totals-requires c κs = (c .before .before .before .before .before .before .before .before .before .before .pre .0 .sweeps, rest-room (after (c .before .before .before)) (middle (c .before .before .before)) (length (totalsTable (c .before .before .before .before .before .before .before .before .before .before .args .figures))) (room-one (c .before .before .before)))
+
+add-result : tie.Need-add-result
+add-result c = let w = third (c .before .before) in omega (arith, w .next, room-one (c .before .before .before .before .before .before))
+
+same-length : tie.Need-same-length
+same-length c = search needs
+
+whole : (c : tie.After-put-totals) →
+    let a = c .before .before .before .before .before .before .before .before .before .before .before .args in
+    let m = middle (c .before .before .before .before) in
+    let l = after (c .before .before .before .before) in
+    Written (a .out .now) 0 (wholeText (a .nodes) (a .branches) (a .rows) (a .v) (a .i) (a .losses) (a .figures)) (m + c .put-totals .result) (putMid m (length l - m) l (c .put-totals .last .0))
+unfolding wholeText
+whole c = written-behind (c .before .before .before .before .before .before .before .before .put-nodes .ensures) (written-behind (second (c .before .before .before .before)) (third c))
+
+returns : tie.Need-returns
+returns c = (whole (c .before .before), λ f vs is s. rw (report-is s) (written-front (c .before .before .before .before .before .before .before .before .before .before .before .before .before .pre .1) (whole (c .before .before))))
+
+pub put-report-spec : {M : Type 1} → statement M
+put-report-spec =
+    tie.close
+    (tie.spec
+    put-nodes-requires
+    sub-put-branches
+    part-put-branches-start
+    part-put-branches-end
+    put-branches-requires
+    add-middle
+    sub-put-totals
+    part-put-totals-start
+    part-put-totals-end
+    put-totals-requires
+    add-result
+    same-length
+    returns)

@@ -1,0 +1,37 @@
+-- The report's text over the arrays that the code has. Assumes nothing.
+use mathlib.Core.List.{List, _++_}
+use Prim.Native.Nat.{_<_, _≤_, ℕ}
+use lib.ListN.{getD}
+use Rattle.equations.specs.Equations.{zero3}
+use Rattle.feeder.specs.Feeder.{noBranch}
+use Rattle.feeder.specs.declared.Branch.{Branch}
+use Rattle.feeder.specs.declared.Three.{Three}
+use Rattle.integers.specs.Pairs.{0c}
+use Rattle.integers.specs.declared.Pair.{Pair}
+use Rattle.report_writer.specs.Lines.{branchRow, branchTable, nodeRow, nodeTable, totalsTable}
+use Rattle.report_writer.specs.declared.Figures.{Figures}
+
+-- the from-node of branch row k
+abbrev pub fromIn : List Branch → ℕ → ℕ
+fromIn branches k = getD branches k noBranch .from
+
+-- the arrays have a place for the from-node of each row
+abbrev pub Linked : List Branch → ℕ → Type 0
+Linked branches rows = (k : ℕ) → 0 < k → k ≤ rows → fromIn branches k < 201
+
+-- the line of node k, and of branch row k
+unfoldable pub nodeLineAt : List ℕ → List Three → ℕ → List ℕ
+nodeLineAt nodes v k = nodeRow (getD nodes k 0) (getD v k zero3)
+
+unfoldable pub branchLineAt : List ℕ → List Branch → List Three → List Pair → ℕ → List ℕ
+branchLineAt nodes branches i losses k = branchRow (getD nodes (fromIn branches k) 0) (getD nodes k 0) (getD i k zero3) (getD losses k 0c)
+
+-- what the code asks of its arguments: at most 200 rows, from-nodes that have places, and sweeps that are a signed number
+pub record Given (branches : List Branch) (rows : ℕ) (g : Figures) : Type 0 where
+  pub few : rows ≤ 200
+  pub from : Linked branches rows
+  pub sweeps : g .sweeps < 9223372036854775808
+
+unfoldable pub wholeText : List ℕ → List Branch → ℕ → List Three → List Three → List Pair → Figures → List ℕ
+wholeText nodes branches rows v i losses g =
+    nodeTable (nodeLineAt nodes v) rows ++ (branchTable (branchLineAt nodes branches i losses) rows ++ totalsTable g)

@@ -1,0 +1,78 @@
+// Writers of the report's tables. A table is written from the start of the buffer that it is lent.
+ghost use Prim.Native.Nat.{_<_, _≤_};
+ghost use lib.ListN.{length};
+ghost use Rattle.report_writer.specs.Lines.{branchTable, nodeTable, totalsTable};
+ghost use Rattle.report_writer.specs.Tables.{Linked, branchLineAt, nodeLineAt};
+ghost use Rattle.text.specs.Promises.{Written};
+use crate::Figures;
+use crate::lines::put_branch;
+use crate::lines::put_node;
+use crate::lines::put_totals_line;
+use feeder::Branch;
+use feeder::Three;
+use integers::Pair;
+use text::write::put_byte;
+use text::write::put_bytes;
+
+// The column names, a line for each node, and an empty line.
+pub fn put_nodes(out: &mut [u8], nodes: [u64; 201], rows: usize, v: [Three; 201]) -> usize
+    requires { ⌜ rows ≤ 200 ⌝ }
+    requires { ⌜ length (nodeTable (nodeLineAt nodes v) rows) ≤ length (now out) ⌝ }
+    ensures { λ r. ⌜ Written (now (out .entry)) 0 (nodeTable (nodeLineAt nodes v) rows) r (now (out .exit)) ⌝ }
+{
+    let mut at = put_bytes(out, 0, b"node,va_re,va_im,vb_re,vb_im,vc_re,vc_im\n");
+    let mut k = 0;
+    while k <= rows {
+        let name = nodes[k];
+        let x = v[k];
+        at = put_node(out, at, name, x);
+        k += 1;
+    }
+    put_byte(out, at, 10)
+}
+
+// The column names, a line for each branch row, and an empty line.
+pub fn put_branches(
+    out: &mut [u8],
+    nodes: [u64; 201],
+    branches: [Branch; 201],
+    rows: usize,
+    i: [Three; 201],
+    losses: [Pair; 201],
+) -> usize
+    requires { ⌜ rows ≤ 200 ⌝ }
+    requires { ⌜ Linked branches rows ⌝ }
+    requires { ⌜ length (branchTable (branchLineAt nodes branches i losses) rows) ≤ length (now out) ⌝ }
+    ensures { λ r. ⌜ Written (now (out .entry)) 0 (branchTable (branchLineAt nodes branches i losses) rows) r (now (out .exit)) ⌝ }
+{
+    let mut at = put_bytes(
+        out,
+        0,
+        b"from,to,ia_re,ia_im,ib_re,ib_im,ic_re,ic_im,loss_p,loss_q\n",
+    );
+    let mut row = 1;
+    while row <= rows {
+        let from = branches[row].from;
+        let upper = nodes[from];
+        let lower = nodes[row];
+        let x = i[row];
+        let loss = losses[row];
+        at = put_branch(out, at, upper, lower, x, loss);
+        row += 1;
+    }
+    put_byte(out, at, 10)
+}
+
+// The column names, and one line.
+pub fn put_totals(out: &mut [u8], figures: Figures) -> usize
+    requires { ⌜ figures .sweeps < 9223372036854775808 ⌝ }
+    requires { ⌜ length (totalsTable figures) ≤ length (now out) ⌝ }
+    ensures { λ r. ⌜ Written (now (out .entry)) 0 (totalsTable figures) r (now (out .exit)) ⌝ }
+{
+    let at = put_bytes(
+        out,
+        0,
+        b"sweeps,source_p,source_q,drawn_p,drawn_q,lost_p,lost_q\n",
+    );
+    put_totals_line(out, at, figures)
+}
