@@ -1,0 +1,63 @@
+-- Where the study wrote a report: the feeder that it read, the solution that it found, and the sweeps and bytes that it answers. Assumes nothing.
+use mathlib.Core.List.{List}
+use mathlib.Core.Path.{_∙_, _≡_, ap, refl, sym}
+use Prim.Native.Nat.{_≤_, ℕ}
+use native.Mathlib.Omega.{arith}
+use lib.Dec.{ltb}
+use lib.ListN.{length}
+use borrow.Author.Tests.{ltb-false}
+use Rattle.answers.specs.AnswerLaws.{bound, not-if, same-good}
+use Rattle.answers.specs.Answers.{Outcome, _>>=_, _>>_, good, refuseIf, refused}
+use Rattle.answers.specs.declared.Refusal.the-variants.{BufferShort}
+use Rattle.feeder.specs.Feeder.{Feeder, reading}
+use Rattle.ladder.specs.Ladder.{Solution, solution}
+use Rattle.ladder.specs.LadderLaws.{sweeps-in}
+use Rattle.ladder.specs.Study.{Report, answered, fitted, report, studyOf}
+use Rattle.ladder.specs.declared.Study.the-variants.{Written}
+use Rattle.report.specs.Report.{reportText}
+
+pub record StudyGood (s : List ℕ) (n len k : ℕ) : Type 0 where
+  pub feeder : Feeder
+  pub solution-found : Solution
+  pub read : reading s ≡ good feeder
+  pub solved-as : solution feeder ≡ good solution-found
+  pub sweeps : k ≡ solution-found .sweeps
+  pub limit : k ≤ feeder .limit
+  pub text-length : len ≡ length (reportText feeder (solution-found .voltages) (solution-found .currents) (solution-found .sweeps))
+  pub fits : len ≤ n
+
+-- the report behind an answer
+record Answered (x : Outcome Report) (len k : ℕ) : Type 0 where
+  report-got : Report
+  came : x ≡ good report-got
+  length-is : len ≡ length (report-got .text)
+  sweeps-are : k ≡ report-got .sweeps
+
+answer : (x : Outcome Report) (len k : ℕ) → answered x ≡ Written len k → Answered x len k
+answer (good t) len k e = record { report-got = t; came = refl; length-is = cc; sweeps-are = cc }
+answer (refused r) len k e = let z : _≡_ {A = ℕ} 0 1 = cc in absurd (omega arith)
+
+pub study-good : (s : List ℕ) (n len k : ℕ) → studyOf s n ≡ Written len k → StudyGood s n len k
+unfolding studyOf fitted report
+study-good s n len k e =
+    let a = answer (fitted s n) len k e in
+    let whole : Feeder → Solution → Outcome Report = λ f x. good (record { text = reportText f (x .voltages) (x .currents) (x .sweeps); sweeps = x .sweeps }) in
+    let b = bound (report s) (λ t. refuseIf (ltb n (length (t .text))) (BufferShort (length (t .text))) >> good t) (a .report-got) (a .came) in
+    let c = not-if (ltb n (length (b .value .text))) _ (good (b .value)) (a .report-got) (b .rest) in
+    let d = bound (reading s) (λ f. solution f >>= whole f) (b .value) (b .came) in
+    let g = bound (solution (d .value)) (whole (d .value)) (b .value) (d .rest) in
+    let t : b .value ≡ a .report-got = same-good _ _ (c .1) in
+    let w : record { text = reportText (d .value) (g .value .voltages) (g .value .currents) (g .value .sweeps); sweeps = g .value .sweeps } ≡ b .value = same-good _ _ (g .rest) in
+    let m : k ≡ g .value .sweeps = a .sweeps-are ∙ sym (ap (λ (y : Report). y .sweeps) (w ∙ t)) in
+    let short : length (b .value .text) ≤ n = ltb-false _ _ (c .0) in
+    let l : len ≡ length (b .value .text) = a .length-is ∙ sym (ap (λ (y : Report). length (y .text)) t) in
+    record {
+      feeder = d .value;
+      solution-found = g .value;
+      read = d .came;
+      solved-as = g .came;
+      sweeps = m;
+      limit = omega (arith, sweeps-in (d .value) (g .value) (g .came));
+      text-length = l ∙ sym (ap (λ (y : Report). length (y .text)) w);
+      fits = omega arith;
+    }
