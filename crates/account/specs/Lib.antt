@@ -1,0 +1,5 @@
+pub mod Account
+pub mod Sums
+pub mod Powers
+pub mod RowBounds
+pub mod AccountLaw

@@ -1,0 +1,1 @@
+// The power account (demand 3): its statement is in specs/Account.antt.

@@ -1,0 +1,83 @@
+-- `stages::check_report` meets its contract: 51, 52, then 30 to 32. Assumes nothing.
+use mathlib.Core.Path.{_∙_, _≡_, ap, refl, sym}
+use Rattle.answers.specs.declared.Refusal.the-variants.{NameDiffers, SourceDiffers}
+use Rattle.feeder.specs.Feeder.{Feeder, rowCount}
+use Rattle.feeder.specs.Network.{Held}
+use Rattle.report.specs.Report.{Reported}
+use Rattle.report_check.specs.Check.{nameDiffers, sourceDiffers, verdictOf}
+use Rattle.report_check.specs.CheckStages.{compared-is, fails-at, from30, from52, goes-on}
+use Rattle.report_check.specs.InHand.{comparable, parents-in}
+use Rattle.report_reader.specs.Read.{ReportHeld}
+use borrow.Author.Needs.{needs}
+use Rattle.report_check.proofs.stages.check_report.Statement.{statement}
+use Rattle.report_check.proofs.stages.check_report.Tie as tie
+
+-- 51
+named-is : (c : tie.After-first-name-differs) (f : Feeder) (x : Reported) → let a = c .before .before .before .before .before .before .args in Held f (a .g) → ReportHeld (rowCount f) x (a .t) → c .first-name-differs .result ≡ nameDiffers f x
+named-is c f x h w =
+    let a = c .before .before .before .before .before .before .args in
+    c .first-name-differs .ensures f (a .g) x (a .t) h w refl refl refl refl refl refl
+
+-- 52
+source-is : (c : tie.After-first-source-differs) (f : Feeder) (x : Reported) → let a = c .before .before .before .before .before .before .before .before .before .before .before .args in Held f (a .g) → ReportHeld (rowCount f) x (a .t) → c .first-source-differs .result ≡ sourceDiffers f x
+source-is c f x h w =
+    let a = c .before .before .before .before .before .before .before .before .before .before .before .args in
+    c .first-source-differs .ensures f (a .g) x (a .t) h w refl refl refl refl
+
+first-name-differs-requires : tie.Need-first-name-differs-requires
+first-name-differs-requires c κs =
+    let k = c .before .before .before .before .before .pre .known in
+    (k .arranged .linked .few, parents-in k)
+
+enum-known-named : tie.Need-enum-known-named
+enum-known-named c = search needs
+
+returns : tie.Need-returns
+returns c = λ f x h w. fails-at NameDiffers (from52 f x) (sym (named-is (c .before .before .before) f x h w) ∙ c .before .named .given .1) ∙ ap verdictOf (sym (compared-is f x))
+
+enum-told : tie.Need-enum-told
+enum-told c = search needs
+
+first-source-differs-requires : tie.Need-first-source-differs-requires
+first-source-differs-requires c κs = c .before .before .before .before .before .before .before .before .before .before .pre .known .arranged .linked .few
+
+enum-known-differs : tie.Need-enum-known-differs
+enum-known-differs c = search needs
+
+returns-2 : tie.Need-returns-2
+unfolding from52
+returns-2 c = λ f x h w.
+    let e = c .before .before .before .before .before .before in
+    goes-on NameDiffers (from52 f x) (sym (named-is (e .before .before) f x h w) ∙ e .enum-told .given .1)
+    (fails-at SourceDiffers (from30 f x) (sym (source-is (c .before .before .before) f x h w) ∙ c .before .differs .given .1)) ∙ ap verdictOf (sym (compared-is f x))
+
+enum-told-2 : tie.Need-enum-told-2
+enum-told-2 c = search needs
+
+check-work-requires : tie.Need-check-work-requires
+check-work-requires c κs =
+    let s = c .before .before .before .before .before .before .before .before .before .before .before .before .before in
+    let m = s .pre in
+    (m .known, comparable (s .args .g) (s .args .t) m (sym (source-is (c .before .before) (m .known .feeder) (m .report) (m .known .held) (m .read)) ∙ c .enum-told2 .given .1))
+
+returns-3 : tie.Need-returns-3
+unfolding from52
+returns-3 c = λ f x h w.
+    let e = c .before .before .before .before .before .before in
+    goes-on NameDiffers (from52 f x) (sym (named-is (e .before .before) f x h w) ∙ e .enum-told .given .1)
+    (goes-on SourceDiffers (from30 f x) (sym (source-is (c .before .before .before) f x h w) ∙ c .before .enum-told2 .given .1) (c .check-work .ensures f x h w)) ∙ ap verdictOf (sym (compared-is f x))
+
+pub check-report-spec : {M : Type 1} → statement M
+check-report-spec =
+    tie.close
+    (tie.spec
+    first-name-differs-requires
+    enum-known-named
+    returns
+    enum-told
+    first-source-differs-requires
+    enum-known-differs
+    returns-2
+    enum-told-2
+    check-work-requires
+    returns-3)

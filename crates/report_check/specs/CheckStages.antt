@@ -1,0 +1,168 @@
+-- The check from each of its tests on, and the answers of the two readers by cases. Assumes nothing.
+use mathlib.Core.Bool.{Bool, false, true}
+use mathlib.Core.List.{List}
+use mathlib.Core.Path.{_∙_, _≡_, ap, refl, sym}
+use Prim.Native.Nat.{ℕ}
+use native.Mathlib.Omega.{arith}
+use Rattle.account.specs.Account.{PowerAccount}
+use Rattle.answers.specs.Answers.{Done, Outcome, _>>_, done, good, refuseAt, refuseIf, refused}
+use Rattle.answers.specs.declared.Found.{Found}
+use Rattle.answers.specs.declared.Found.the-variants.{At, Nothing}
+use Rattle.answers.specs.declared.Refusal.{Refusal}
+use Rattle.answers.specs.declared.Refusal.the-variants.{CurrentBeyond, CurrentDiffers, LoadBeyond, NameDiffers, ReportLayout, SourceDiffers, TooLong, TotalDiffers, VoltageOff, ZeroVoltage}
+use Rattle.equations.specs.Equations.{currentBeyond, currents, loadBeyond, voltages, zeroVoltage}
+use Rattle.feeder.specs.Feeder.{Feeder, reading, tooLong}
+use Rattle.feeder.specs.Network.{Held}
+use Rattle.feeder.specs.declared.Three.{Three}
+use Rattle.reading.specs.Reading.{Arranged, ReadAs}
+use Rattle.reading.specs.declared.ReadAnswer.the-variants.{Good, Refused}
+use Rattle.reading.specs.declared.Reading.{Reading}
+use Rattle.report.specs.Report.{Reported, reportOf, reportedVoltages}
+use Rattle.report_check.specs.Check.{checkOf, checked, compared, currentDiffers, nameDiffers, sourceDiffers, totalDiffers, verdictOf, voltageOff}
+use Rattle.report_check.specs.Demand.{demand3}
+use Rattle.report_check.specs.declared.Verdict.{Verdict}
+use Rattle.report_check.specs.declared.Verdict.the-variants.{Fail, Pass}
+use Rattle.report_reader.specs.Read.{ReportHeld, ReportIs}
+use Rattle.report_reader.specs.declared.ReportRead.{ReportRead}
+use Rattle.sweeps.specs.Sweeps.{workOf}
+use Rattle.sweeps.specs.declared.Work.the-variants.{CurrentBeyond as WorkOver, Fine as WorkFine, LoadBeyond as WorkLoad, ZeroVoltage as WorkZero}
+
+-- the currents worked at the reported voltages
+abbrev pub workedAt : Feeder → Reported → List Three
+workedAt f x = currents f (reportedVoltages x)
+
+unfoldable pub from55 : Feeder → Reported → Outcome Done
+from55 f x = refuseIf (totalDiffers f x (reportedVoltages x) (workedAt f x)) TotalDiffers >> good done
+
+unfoldable pub from54 : Feeder → Reported → Outcome Done
+from54 f x = refuseAt VoltageOff (voltageOff f x (voltages f (workedAt f x))) >> from55 f x
+
+unfoldable pub from53 : Feeder → Reported → Outcome Done
+from53 f x = refuseAt CurrentDiffers (currentDiffers f x (workedAt f x)) >> from54 f x
+
+unfoldable pub from30 : Feeder → Reported → Outcome Done
+from30 f x =
+    refuseIf (zeroVoltage f (reportedVoltages x)) (ZeroVoltage 0) >> (refuseIf (loadBeyond f (reportedVoltages x)) (LoadBeyond 0) >> (refuseIf (currentBeyond f (workedAt f x)) (CurrentBeyond 0) >> from53 f x))
+
+unfoldable pub from52 : Feeder → Reported → Outcome Done
+from52 f x = refuseAt SourceDiffers (sourceDiffers f x) >> from30 f x
+
+pub compared-is : (f : Feeder) (x : Reported) → compared f x ≡ (refuseAt NameDiffers (nameDiffers f x) >> from52 f x)
+unfolding compared from52 from30 from53 from54 from55
+compared-is f x = refl
+
+-- a test that finds a line, and one that finds none
+pub fails-at : {t : Found} {n : ℕ} (r : ℕ → Refusal) (o : Outcome Done) → t ≡ At n → Fail (r n) ≡ verdictOf (refuseAt r t >> o)
+fails-at r o e = rw e
+
+pub goes-on : {t : Found} {v : Verdict} (r : ℕ → Refusal) (o : Outcome Done) → t ≡ Nothing → v ≡ verdictOf o → v ≡ verdictOf (refuseAt r t >> o)
+goes-on r o e h = rw e h
+
+pub fails-if : {t : Bool} (r : Refusal) (o : Outcome Done) → t ≡ true → Fail r ≡ verdictOf (refuseIf t r >> o)
+fails-if r o e = rw e
+
+pub passes : {t : Bool} (r : Refusal) → t ≡ false → Pass ≡ verdictOf (refuseIf t r >> good done)
+passes r e = rw e
+
+-- ---- 30 to 32, by what was worked
+is-zero : (a b c : Bool) → WorkZero ≡ workOf a b c → a ≡ true
+is-zero true b c e = refl
+is-zero false true c e = let z : _≡_ {A = ℕ} 0 1 = cc in absurd (omega arith)
+is-zero false false true e = let z : _≡_ {A = ℕ} 0 1 = cc in absurd (omega arith)
+is-zero false false false e = let z : _≡_ {A = ℕ} 0 1 = cc in absurd (omega arith)
+
+is-load : (a b c : Bool) → WorkLoad ≡ workOf a b c → (a ≡ false) × (b ≡ true)
+is-load true b c e = let z : _≡_ {A = ℕ} 0 1 = cc in absurd (omega arith)
+is-load false true c e = (refl, refl)
+is-load false false true e = let z : _≡_ {A = ℕ} 0 1 = cc in absurd (omega arith)
+is-load false false false e = let z : _≡_ {A = ℕ} 0 1 = cc in absurd (omega arith)
+
+is-over : (a b c : Bool) → WorkOver ≡ workOf a b c → (a ≡ false) × ((b ≡ false) × (c ≡ true))
+is-over true b c e = let z : _≡_ {A = ℕ} 0 1 = cc in absurd (omega arith)
+is-over false true c e = let z : _≡_ {A = ℕ} 0 1 = cc in absurd (omega arith)
+is-over false false true e = (refl, (refl, refl))
+is-over false false false e = let z : _≡_ {A = ℕ} 0 1 = cc in absurd (omega arith)
+
+is-fine : (a b c : Bool) → WorkFine ≡ workOf a b c → (a ≡ false) × ((b ≡ false) × (c ≡ false))
+is-fine true b c e = let z : _≡_ {A = ℕ} 0 1 = cc in absurd (omega arith)
+is-fine false true c e = let z : _≡_ {A = ℕ} 0 1 = cc in absurd (omega arith)
+is-fine false false true e = let z : _≡_ {A = ℕ} 0 1 = cc in absurd (omega arith)
+is-fine false false false e = (refl, (refl, refl))
+
+module _ (f : Feeder) (x : Reported) where
+  abbrev dead : Bool
+  dead = zeroVoltage f (reportedVoltages x)
+
+  abbrev large : Bool
+  large = loadBeyond f (reportedVoltages x)
+
+  abbrev over : Bool
+  over = currentBeyond f (workedAt f x)
+
+  pub fails30 : WorkZero ≡ workOf dead large over → Fail (ZeroVoltage 0) ≡ verdictOf (from30 f x)
+  unfolding from30
+  fails30 e = rw (is-zero dead large over e)
+
+  pub fails31 : WorkLoad ≡ workOf dead large over → Fail (LoadBeyond 0) ≡ verdictOf (from30 f x)
+  unfolding from30
+  fails31 e = let w = is-load dead large over e in rw (w .0, w .1)
+
+  pub fails32 : WorkOver ≡ workOf dead large over → Fail (CurrentBeyond 0) ≡ verdictOf (from30 f x)
+  unfolding from30
+  fails32 e = let w = is-over dead large over e in rw (w .0, w .1 .0, w .1 .1)
+
+  pub goes30 : {v : Verdict} → WorkFine ≡ workOf dead large over → v ≡ verdictOf (from53 f x) → v ≡ verdictOf (from30 f x)
+  unfolding from30
+  goes30 e h = let w = is-fine dead large over e in rw (w .0, w .1 .0, w .1 .1) h
+
+-- ---- the feeder that is read, or its refusal
+pub record FeederRead (o : Outcome Feeder) (r : Reading) : Type 0 where
+  pub feeder : Feeder
+  pub came : o ≡ good feeder
+  pub held : Held feeder (r .network)
+  pub arranged : Arranged (r .network)
+
+pub feeder-read : (o : Outcome Feeder) (r : Reading) → ReadAs o r → r .answer ≡ Good → FeederRead o r
+feeder-read (good f) r h e = record { feeder = f; came = refl; held = h .answered .1; arranged = h .answered .2 }
+feeder-read (refused y) r h e = let q : Refused y ≡ Good = sym (h .answered) ∙ e in let z : _≡_ {A = ℕ} 0 1 = cc in absurd (omega arith)
+
+pub feeder-refused : (o : Outcome Feeder) (r : Reading) (y : Refusal) → ReadAs o r → r .answer ≡ Refused y → o ≡ refused y
+feeder-refused (good f) r y h e = let q : Good ≡ Refused y = sym (h .answered .0) ∙ e in let z : _≡_ {A = ℕ} 0 1 = cc in absurd (omega arith)
+feeder-refused (refused w) r y h e = let q : Refused w ≡ Refused y = sym (h .answered) ∙ e in cc
+
+-- ---- the report that is read, or 50
+pub record ReportFound (rows : ℕ) (o : Outcome Reported) (t : ReportRead) : Type 0 where
+  pub report : Reported
+  pub came : o ≡ good report
+  pub held : ReportHeld rows report t
+
+pub report-read : (rows : ℕ) (o : Outcome Reported) (t : ReportRead) → ReportIs rows o t → t .ok ≡ true → ReportFound rows o t
+report-read rows (good x) t h e = record { report = x; came = refl; held = h }
+report-read rows (refused y) t h e = let q : true ≡ false = sym e ∙ h .ok in let z : _≡_ {A = ℕ} 0 1 = cc in absurd (omega arith)
+
+pub report-refused : (rows : ℕ) (o : Outcome Reported) (t : ReportRead) → ReportIs rows o t → t .ok ≡ false → o ≡ refused ReportLayout
+report-refused rows (good x) t h e = let q : true ≡ false = sym (h .ok) ∙ e in let z : _≡_ {A = ℕ} 0 1 = cc in absurd (omega arith)
+report-refused rows (refused y) t h e = ap refused (h .layout)
+
+-- ---- the check of the two texts by its steps
+module _ (s t : List ℕ) where
+  pub check-long : tooLong t ≡ true → Fail TooLong ≡ checkOf s t
+  unfolding checkOf checked
+  check-long e = rw e
+
+  module _ (short : tooLong t ≡ false) where
+    pub check-feeder : (y : Refusal) → reading s ≡ refused y → Fail y ≡ checkOf s t
+    unfolding checkOf checked
+    check-feeder y e = rw (short, e)
+
+    pub check-report : (f : Feeder) → reading s ≡ good f → reportOf f t ≡ refused ReportLayout → Fail ReportLayout ≡ checkOf s t
+    unfolding checkOf checked
+    check-report f e h = rw (short, e, h)
+
+    pub check-compared : {v : Verdict} (f : Feeder) (x : Reported) → reading s ≡ good f → reportOf f t ≡ good x → v ≡ verdictOf (compared f x) → v ≡ checkOf s t
+    unfolding checkOf checked
+    check-compared f x e h k = rw (short, e, h) k
+
+-- both of the check's promises, by the first
+pub promised : (s t : List ℕ) {v : Verdict} → v ≡ checkOf s t → (v ≡ checkOf s t) × (v ≡ Pass → PowerAccount s t)
+promised s t e = (e, λ p. demand3 s t (sym e ∙ p))

@@ -1,0 +1,104 @@
+-- A feeder and its report in memory, with the currents worked at the reported voltages: what the tests over them ask for. Assumes nothing.
+use mathlib.Core.Bool.{_&&_, cond, false, not, true}
+use mathlib.Core.List.{List, _∷_, map}
+use mathlib.Core.Path.{_∙_, _≡_, ap, ap₂, sym}
+use Prim.Native.Nat.{_+_, _<_, ℕ}
+use native.Mathlib.Omega.{arith}
+use lib.ListN.{getD, length-map}
+use Rattle.answers.specs.declared.Found.{Found}
+use Rattle.answers.specs.declared.Found.the-variants.{Nothing}
+use Rattle.equations.specs.Equations.{currentBeyond, downward, drawnPower, lossOf, lostPower, power, sourcePower, voltages, zero3}
+use Rattle.equations.specs.Fit.{fit}
+use Rattle.feeder.specs.Feeder.{Feeder, firstRow, parent, reading, rowCount, rowsOf, threeAt}
+use Rattle.feeder.specs.Network.{Held, kept}
+use Rattle.feeder.specs.RowLaws.{held, or-none}
+use Rattle.feeder.specs.declared.Network.{Network}
+use Rattle.feeder.specs.declared.Three.{Three}
+use Rattle.integers.specs.Pairs.{0c}
+use Rattle.integers.specs.declared.Pair.{Pair}
+use Rattle.passes.specs.Passes.{Comparable, LossesAre, differ, firstOff}
+use Rattle.passes.specs.Same.{Same, currents-same, drawn-same, load-beyond-same, loss-same, lost-same, same-currents, same-kept, voltages-same, zero-voltage-same}
+use Rattle.passes.specs.declared.Losses.{Losses}
+use Rattle.radial.specs.Radial.{parentIn}
+use Rattle.reading.specs.declared.Reading.{Reading}
+use Rattle.report.specs.Report.{Reported, reportedVoltages}
+use Rattle.report_check.specs.Check.{belowOff, off, sourceDiffers, voltageOff}
+use Rattle.report_check.specs.CheckStages.{FeederRead, workedAt}
+use Rattle.report_check.specs.Tests.{same3-true}
+use Rattle.report_reader.specs.Read.{ReportHeld}
+use Rattle.report_reader.specs.declared.ReportRead.{ReportRead}
+use Rattle.sweeps.specs.Sweeps.{Known, WorkedIs, workOf}
+use Rattle.sweeps.specs.declared.Worked.{Worked}
+
+-- g has a feeder, and t a report of it
+pub record Met (g : Network) (t : ReportRead) : Type 0 where
+  pub known : Known g
+  pub report : Reported
+  pub read : ReportHeld (rowCount (known .feeder)) report t
+
+-- f in g, its report x in t, the currents worked at the reported voltages in i, and the power drawn there
+pub record InHand (f : Feeder) (x : Reported) (g : Network) (t : ReportRead) (i : List Three) (drawn : Pair) : Type 0 where
+  pub held : Held f g
+  pub read : ReportHeld (rowCount f) x t
+  pub currents-are : i ≡ kept zero3 201 (workedAt f x)
+  pub drawn-is : drawn ≡ drawnPower f (reportedVoltages x)
+
+-- ---- the voltages of a report at each place
+module _ (f : Feeder) (g : Network) (x : Reported) (t : ReportRead) (h : Held f g) (w : ReportHeld (rowCount f) x t) where
+  pub voltages-held : Same (t .voltages) (reportedVoltages x)
+  unfolding reportedVoltages
+  voltages-held = record {
+    place = λ k. ap (λ (l : List Three). getD l k zero3) (w .voltages) ∙ same-kept 201 (reportedVoltages x) (omega (arith, h .few-rows, w .nodeCount, length-map (x .nodes) (λ y. threeAt (y .values) 1))) .place k;
+  }
+
+  -- 52 has the source's voltages equal
+  pub source-first : sourceDiffers f x ≡ Nothing → getD (t .voltages) 0 zero3 ≡ g .source
+  unfolding sourceDiffers
+  source-first e = voltages-held .place 0 ∙ same3-true _ _ (held _ 2 (or-none _ _ e .0)) ∙ sym (h .source)
+
+  -- what is worked at the array is worked at the report's voltages
+  pub work-held : (r : Worked) → WorkedIs f (t .voltages) r → WorkedIs f (reportedVoltages x) r
+  work-held r k = record { work-is = k .work-is ∙ (λ j. workOf (zero-voltage-same f voltages-held j) (load-beyond-same f voltages-held j) (currentBeyond f (currents-same f voltages-held j))); currents-are = λ e. k .currents-are e ∙ ap (kept zero3 201) (currents-same f voltages-held); drawn-is = λ e. k .drawn-is e ∙ drawn-same f voltages-held }
+
+-- 54's values are in their limits
+pub comparable : (g : Network) (t : ReportRead) (m : Met g t) → sourceDiffers (m .known .feeder) (m .report) ≡ Nothing → Comparable (g .source) (t .voltages) (g .tol)
+comparable g t m e = record {
+  first = source-first (m .known .feeder) g (m .report) t (m .known .held) (m .read) e;
+  each = m .read .smallVoltages;
+  small = omega (arith, m .known .held .tol, m .known .fit .tol);
+}
+
+-- ---- what is worked with the currents
+module _ (f : Feeder) (x : Reported) (g : Network) (t : ReportRead) (i : List Three) (drawn : Pair) (h : InHand f x g t i drawn) where
+  pub currents-held : Same i (workedAt f x)
+  currents-held = record { place = λ k. ap (λ (l : List Three). getD l k zero3) (h .currents-are) ∙ same-currents f (reportedVoltages x) (h .held .few-rows) .place k }
+
+  pub losses-held : (r : Losses) → LossesAre f i r → r .each ≡ kept 0c 201 (0c ∷ map (lossOf f (workedAt f x)) (rowsOf f))
+  losses-held r k = k .each-is ∙ (λ j. kept 0c 201 (0c ∷ map (λ m. loss-same f currents-held m j) (rowsOf f)))
+
+  pub lost-held : (r : Losses) → LossesAre f i r → r .sum ≡ lostPower f (workedAt f x)
+  lost-held r k = k .sum-is ∙ lost-same f currents-held
+
+  pub sent-held : (p : Pair) → p ≡ power (g .source) (getD i 0 zero3) → p ≡ sourcePower f (workedAt f x)
+  unfolding sourcePower
+  sent-held p e = e ∙ ap₂ power (h .held .source) (currents-held .place 0)
+
+  -- 54 of the arrays is 54 of the report
+  pub off-held : {r : Found} → r ≡ firstOff f (g .tol) (voltages f i) (t .voltages) → r ≡ voltageOff f x (voltages f (workedAt f x))
+  unfolding voltageOff off belowOff
+  off-held e =
+      let tol = h .held .tol in
+      let u = voltages-same f currents-held in
+      let v = voltages-held f g x t (h .held) (h .read) in
+      e ∙ (λ j. firstRow (λ (a k : ℕ). differ (tol j) (getD (u j) k zero3) (v .place k j) && not (downward (λ m b. cond (differ (tol j) (getD (u j) (parent f m) zero3) (v .place (parent f m) j)) true b) false (parent f) (rowCount f) k)) 1 1 (0 ∷ rowsOf f))
+
+-- a branch's parent has a place in the arrays
+pub parents-in : {g : Network} → Known g → (k : ℕ) → k < g .rows + 1 → parentIn (g .branches) k < 201
+parents-in k i q = omega (arith, k .arranged .linked .from i q, k .arranged .linked .few)
+
+-- a feeder that is read
+abbrev pub known-read : (s : List ℕ) (r : Reading) → FeederRead (reading s) r → Known (r .network)
+known-read s r w = record { feeder = w .feeder; held = w .held; fit = fit s (w .feeder) (w .came); arranged = w .arranged }
+
+pub met-read : (s : List ℕ) (r : Reading) (w : FeederRead (reading s) r) (x : Reported) (t : ReportRead) → ReportHeld (rowCount (w .feeder)) x t → Met (r .network) t
+met-read s r w x t h = record { known = known-read s r w; report = x; read = h }
