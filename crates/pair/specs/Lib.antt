@@ -1,0 +1,6 @@
+-- Definitions
+pub mod Pair
+-- Laws
+pub mod SolutionSizes
+pub mod PairHolds
+pub mod Calls

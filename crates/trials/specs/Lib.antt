@@ -1,0 +1,11 @@
+pub mod Opened
+pub mod Example
+pub mod Values
+pub mod Refusals
+pub mod TooLong
+pub mod StudyReports
+pub mod StudyLayout
+pub mod StudyRefusals
+pub mod CheckPasses
+pub mod CheckRefusals
+pub mod Accounts

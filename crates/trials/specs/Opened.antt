@@ -1,0 +1,35 @@
+-- Every definition behind the answers on one line: a trial computes them all by `unfolding opened`. Assumes nothing.
+use mathlib.Core.List.{List}
+use Prim.Native.Nat.{ℕ}
+use Rattle.answers.specs.Answers.{Outcome, good, _>>=_}
+use Rattle.integers.specs.declared.Pair.{Pair}
+use Rattle.integers.specs.Rounding.{near, rnd}
+use Rattle.integers.specs.Root.{rootBy, root}
+use Rattle.integers.specs.Pairs.{_+c_, _-c_, _·c_, _·*_, scaled, rndPair, abs, square, inside, within, close, same}
+use Rattle.integers.specs.Lists.{csum, nsum, all, any, tab, count}
+use Rattle.text.specs.Text.{bytes, more, natural, number, name, pack, word, begins, digits, decimal, letters, line}
+use Rattle.text.specs.Lines.{names, numbers, row, text, listed}
+use Rattle.feeder.specs.Layout.{branchRow, loadRow, rows, sourceTable, branchTable, loadTable, layout}
+use Rattle.feeder.specs.Feeder.{firstRow, orElse, columnOf, sourceIn, branchIn, loadIn, outOfLimit, placeOf, nodesOf, unknownFrom, secondTo, deviceOf, feederOf, branchAt, phasesOf, above, notReached, phaseAbsent, zeros, notZero, reading}
+use Rattle.equations.specs.Equations.{each, plus3, minus3, sum3, masked, mix, voltageOn, rated, weight, currentAt, loadCurrent, zOf, dropOf, throughOf, takenOf, farVoltage, nearCurrent, downward, voltages, loadsAt, upward, currents, power, lossOf, sourcePower, drawnPower, lostPower, beyond, beyond3, zeroVoltage, loadBeyond, currentBeyond, voltageBeyond}
+use Rattle.report.specs.Report.{nameText, joined, nodeLine, branchLine, totalsLine, nodesText, branchesText, totalsText, reportText, rowsJust, tableOf, lastRow, reportOf, reportedVoltages, reportedCurrents, reportedLosses}
+use Rattle.ladder.specs.Ladder.{settled, sweep, solution}
+use Rattle.ladder.specs.Study.{report, fitted, studyOf, bufferOf}
+use Rattle.report_check.specs.Check.{nameDiffers, sourceDiffers, currentDiffers, off, belowOff, voltageOff, totalDiffers, compared, checked, checkOf}
+use Rattle.account.specs.Account.{ratingOf, rating, exactLoss, accounted, loadAllowance, over, branchAllowance, allowance, difference}
+
+-- says nothing by itself
+unfoldable pub opened : Unit {0}
+unfolding near rnd rootBy root _+c_ _-c_ _·c_ _·*_ scaled rndPair abs square inside within close same csum nsum all any tab count bytes more natural number name pack word begins digits decimal letters line names numbers row text listed branchRow loadRow rows sourceTable branchTable loadTable layout firstRow orElse columnOf sourceIn branchIn loadIn outOfLimit placeOf nodesOf unknownFrom secondTo deviceOf feederOf branchAt phasesOf above notReached phaseAbsent zeros notZero reading each plus3 minus3 sum3 masked mix voltageOn rated weight currentAt loadCurrent zOf dropOf throughOf takenOf farVoltage nearCurrent downward voltages loadsAt upward currents power lossOf sourcePower drawnPower lostPower beyond beyond3 zeroVoltage loadBeyond currentBeyond voltageBeyond nameText joined nodeLine branchLine totalsLine nodesText branchesText totalsText reportText rowsJust tableOf lastRow reportOf reportedVoltages reportedCurrents reportedLosses settled sweep solution report fitted studyOf bufferOf nameDiffers sourceDiffers currentDiffers off belowOff voltageOff totalDiffers compared checked checkOf ratingOf rating exactLoss accounted loadAllowance over branchAllowance allowance difference
+opened = tt
+
+-- the power account's numbers for a feeder's and a report's text
+pub record Numbers : Type 0 where
+  pub differs : Pair
+  pub allowed : ℕ
+
+abbrev pub accountOf : List ℕ → List ℕ → Outcome Numbers
+accountOf s t = do
+  f ← reading s
+  r ← reportOf f t
+  good (record { differs = difference f r; allowed = allowance f r })

@@ -1,0 +1,182 @@
+-- Vectors: feeders whose layout the study refuses. Assumes nothing.
+use mathlib.Core.Path.{_≡_, refl}
+use Rattle.answers.specs.declared.Refusal.the-variants.{Layout}
+use Rattle.text.specs.Text.{bytes}
+use Rattle.ladder.specs.Study.{studyOf}
+use Rattle.ladder.specs.declared.Study.the-variants.{NoReport}
+use Rattle.trials.specs.Opened.{opened}
+
+-- 00359-ex-cut2
+v00359 : studyOf (bytes "so") 1000000 ≡ NoReport (Layout 1)
+unfolding opened
+v00359 = refl
+
+-- 00369-ex-cut12
+v00369 : studyOf (bytes "source,va_re") 1000000 ≡ NoReport (Layout 1)
+unfolding opened
+v00369 = refl
+
+-- 00379-ex-cut22
+v00379 : studyOf (bytes "source,va_re,va_im,vb_") 1000000 ≡ NoReport (Layout 1)
+unfolding opened
+v00379 = refl
+
+-- 00389-ex-cut32
+v00389 : studyOf (bytes "source,va_re,va_im,vb_re,vb_im,v") 1000000 ≡ NoReport (Layout 1)
+unfolding opened
+v00389 = refl
+
+-- 00399-ex-cut42
+v00399 : studyOf (bytes "source,va_re,va_im,vb_re,vb_im,vc_re,vc_im") 1000000 ≡ NoReport (Layout 1)
+unfolding opened
+v00399 = refl
+
+-- 00409-ex-cut52
+v00409 : studyOf (bytes "source,va_re,va_im,vb_re,vb_im,vc_re,vc_im,tol,sweep") 1000000 ≡ NoReport (Layout 1)
+unfolding opened
+v00409 = refl
+
+-- 00419-ex-cut62
+v00419 : studyOf (bytes "source,va_re,va_im,vb_re,vb_im,vc_re,vc_im,tol,sweeps\nS,720000") 1000000 ≡ NoReport (Layout 2)
+unfolding opened
+v00419 = refl
+
+-- 00429-ex-cut72
+v00429 : studyOf (bytes "source,va_re,va_im,vb_re,vb_im,vc_re,vc_im,tol,sweeps\nS,720000,0,-360000") 1000000 ≡ NoReport (Layout 2)
+unfolding opened
+v00429 = refl
+
+-- 00439-ex-cut82
+v00439 : studyOf (bytes "source,va_re,va_im,vb_re,vb_im,vc_re,vc_im,tol,sweeps\nS,720000,0,-360000,-623538,-") 1000000 ≡ NoReport (Layout 2)
+unfolding opened
+v00439 = refl
+
+-- 00449-ex-cut92
+v00449 : studyOf (bytes "source,va_re,va_im,vb_re,vb_im,vc_re,vc_im,tol,sweeps\nS,720000,0,-360000,-623538,-360000,623") 1000000 ≡ NoReport (Layout 2)
+unfolding opened
+v00449 = refl
+
+-- 00459-ex-cut102
+v00459 : studyOf (bytes "source,va_re,va_im,vb_re,vb_im,vc_re,vc_im,tol,sweeps\nS,720000,0,-360000,-623538,-360000,623538,1,20\n\n") 1000000 ≡ NoReport (Layout 4)
+unfolding opened
+v00459 = refl
+
+-- 00469-ex-cut112
+v00469 : studyOf (bytes "source,va_re,va_im,vb_re,vb_im,vc_re,vc_im,tol,sweeps\nS,720000,0,-360000,-623538,-360000,623538,1,20\n\nfrom,to,ph") 1000000 ≡ NoReport (Layout 4)
+unfolding opened
+v00469 = refl
+
+-- 00479-ex-cut122
+v00479 : studyOf (bytes "source,va_re,va_im,vb_re,vb_im,vc_re,vc_im,tol,sweeps\nS,720000,0,-360000,-623538,-360000,623538,1,20\n\nfrom,to,phases,kind,") 1000000 ≡ NoReport (Layout 4)
+unfolding opened
+v00479 = refl
+
+-- 00489-ex-cut132
+v00489 : studyOf (bytes "source,va_re,va_im,vb_re,vb_im,vc_re,vc_im,tol,sweeps\nS,720000,0,-360000,-623538,-360000,623538,1,20\n\nfrom,to,phases,kind,p1,p2,p3,p") 1000000 ≡ NoReport (Layout 4)
+unfolding opened
+v00489 = refl
+
+-- 00499-ex-cut142
+v00499 : studyOf (bytes "source,va_re,va_im,vb_re,vb_im,vc_re,vc_im,tol,sweeps\nS,720000,0,-360000,-623538,-360000,623538,1,20\n\nfrom,to,phases,kind,p1,p2,p3,p4,p5,p6,p7") 1000000 ≡ NoReport (Layout 4)
+unfolding opened
+v00499 = refl
+
+-- 00509-ex-cut152
+v00509 : studyOf (bytes "source,va_re,va_im,vb_re,vb_im,vc_re,vc_im,tol,sweeps\nS,720000,0,-360000,-623538,-360000,623538,1,20\n\nfrom,to,phases,kind,p1,p2,p3,p4,p5,p6,p7,p8,p9,p10") 1000000 ≡ NoReport (Layout 4)
+unfolding opened
+v00509 = refl
+
+-- 00519-ex-cut162
+v00519 : studyOf (bytes "source,va_re,va_im,vb_re,vb_im,vc_re,vc_im,tol,sweeps\nS,720000,0,-360000,-623538,-360000,623538,1,20\n\nfrom,to,phases,kind,p1,p2,p3,p4,p5,p6,p7,p8,p9,p10,p11,p12\nS") 1000000 ≡ NoReport (Layout 5)
+unfolding opened
+v00519 = refl
+
+-- 00529-ex-cut172
+v00529 : studyOf (bytes "source,va_re,va_im,vb_re,vb_im,vc_re,vc_im,tol,sweeps\nS,720000,0,-360000,-623538,-360000,623538,1,20\n\nfrom,to,phases,kind,p1,p2,p3,p4,p5,p6,p7,p8,p9,p10,p11,p12\nS,N1,A,L,10") 1000000 ≡ NoReport (Layout 5)
+unfolding opened
+v00529 = refl
+
+-- 00539-ex-cut182
+v00539 : studyOf (bytes "source,va_re,va_im,vb_re,vb_im,vc_re,vc_im,tol,sweeps\nS,720000,0,-360000,-623538,-360000,623538,1,20\n\nfrom,to,phases,kind,p1,p2,p3,p4,p5,p6,p7,p8,p9,p10,p11,p12\nS,N1,A,L,1000000,0,0,") 1000000 ≡ NoReport (Layout 5)
+unfolding opened
+v00539 = refl
+
+-- 00549-ex-cut192
+v00549 : studyOf (bytes "source,va_re,va_im,vb_re,vb_im,vc_re,vc_im,tol,sweeps\nS,720000,0,-360000,-623538,-360000,623538,1,20\n\nfrom,to,phases,kind,p1,p2,p3,p4,p5,p6,p7,p8,p9,p10,p11,p12\nS,N1,A,L,1000000,0,0,0,0,0,0,0,") 1000000 ≡ NoReport (Layout 5)
+unfolding opened
+v00549 = refl
+
+-- 00559-ex-cut202
+v00559 : studyOf (bytes "source,va_re,va_im,vb_re,vb_im,vc_re,vc_im,tol,sweeps\nS,720000,0,-360000,-623538,-360000,623538,1,20\n\nfrom,to,phases,kind,p1,p2,p3,p4,p5,p6,p7,p8,p9,p10,p11,p12\nS,N1,A,L,1000000,0,0,0,0,0,0,0,0,0,0,0\n\nn") 1000000 ≡ NoReport (Layout 7)
+unfolding opened
+v00559 = refl
+
+-- 00569-ex-cut212
+v00569 : studyOf (bytes "source,va_re,va_im,vb_re,vb_im,vc_re,vc_im,tol,sweeps\nS,720000,0,-360000,-623538,-360000,623538,1,20\n\nfrom,to,phases,kind,p1,p2,p3,p4,p5,p6,p7,p8,p9,p10,p11,p12\nS,N1,A,L,1000000,0,0,0,0,0,0,0,0,0,0,0\n\nnode,phase,") 1000000 ≡ NoReport (Layout 7)
+unfolding opened
+v00569 = refl
+
+-- 00579-ex-cut222
+v00579 : studyOf (bytes "source,va_re,va_im,vb_re,vb_im,vc_re,vc_im,tol,sweeps\nS,720000,0,-360000,-623538,-360000,623538,1,20\n\nfrom,to,phases,kind,p1,p2,p3,p4,p5,p6,p7,p8,p9,p10,p11,p12\nS,N1,A,L,1000000,0,0,0,0,0,0,0,0,0,0,0\n\nnode,phase,kind,vn,p,") 1000000 ≡ NoReport (Layout 7)
+unfolding opened
+v00579 = refl
+
+-- 00590-ex-cut233
+v00590 : studyOf (bytes "source,va_re,va_im,vb_re,vb_im,vc_re,vc_im,tol,sweeps\nS,720000,0,-360000,-623538,-360000,623538,1,20\n\nfrom,to,phases,kind,p1,p2,p3,p4,p5,p6,p7,p8,p9,p10,p11,p12\nS,N1,A,L,1000000,0,0,0,0,0,0,0,0,0,0,0\n\nnode,phase,kind,vn,p,q\nN1,A,P,72") 1000000 ≡ NoReport (Layout 8)
+unfolding opened
+v00590 = refl
+
+-- 00600-ex-cut243
+v00600 : studyOf (bytes "source,va_re,va_im,vb_re,vb_im,vc_re,vc_im,tol,sweeps\nS,720000,0,-360000,-623538,-360000,623538,1,20\n\nfrom,to,phases,kind,p1,p2,p3,p4,p5,p6,p7,p8,p9,p10,p11,p12\nS,N1,A,L,1000000,0,0,0,0,0,0,0,0,0,0,0\n\nnode,phase,kind,vn,p,q\nN1,A,P,720000,72000") 1000000 ≡ NoReport (Layout 8)
+unfolding opened
+v00600 = refl
+
+-- 00789-shape-tap-'00'
+v00789 : studyOf (bytes "source,va_re,va_im,vb_re,vb_im,vc_re,vc_im,tol,sweeps\nS,720000,0,-360000,-623538,-360000,623538,1,20\n\nfrom,to,phases,kind,p1,p2,p3,p4,p5,p6,p7,p8,p9,p10,p11,p12\nS,N1,A,R,00,0,0,0,0,0,0,0,0,0,0,0\n\nnode,phase,kind,vn,p,q\nN1,A,P,720000,0,0\n") 1000000 ≡ NoReport (Layout 5)
+unfolding opened
+v00789 = refl
+
+-- 00799-shape-tap-'-01'
+v00799 : studyOf (bytes "source,va_re,va_im,vb_re,vb_im,vc_re,vc_im,tol,sweeps\nS,720000,0,-360000,-623538,-360000,623538,1,20\n\nfrom,to,phases,kind,p1,p2,p3,p4,p5,p6,p7,p8,p9,p10,p11,p12\nS,N1,A,R,-01,0,0,0,0,0,0,0,0,0,0,0\n\nnode,phase,kind,vn,p,q\nN1,A,P,720000,0,0\n") 1000000 ≡ NoReport (Layout 5)
+unfolding opened
+v00799 = refl
+
+-- 00809-shape-tap-''
+v00809 : studyOf (bytes "source,va_re,va_im,vb_re,vb_im,vc_re,vc_im,tol,sweeps\nS,720000,0,-360000,-623538,-360000,623538,1,20\n\nfrom,to,phases,kind,p1,p2,p3,p4,p5,p6,p7,p8,p9,p10,p11,p12\nS,N1,A,R,,0,0,0,0,0,0,0,0,0,0,0\n\nnode,phase,kind,vn,p,q\nN1,A,P,720000,0,0\n") 1000000 ≡ NoReport (Layout 5)
+unfolding opened
+v00809 = refl
+
+-- 00819-shape-tap-' 1'
+v00819 : studyOf (bytes "source,va_re,va_im,vb_re,vb_im,vc_re,vc_im,tol,sweeps\nS,720000,0,-360000,-623538,-360000,623538,1,20\n\nfrom,to,phases,kind,p1,p2,p3,p4,p5,p6,p7,p8,p9,p10,p11,p12\nS,N1,A,R, 1,0,0,0,0,0,0,0,0,0,0,0\n\nnode,phase,kind,vn,p,q\nN1,A,P,720000,0,0\n") 1000000 ≡ NoReport (Layout 5)
+unfolding opened
+v00819 = refl
+
+-- 00834-shape-tap-'9999999999999999999'
+v00834 : studyOf (bytes "source,va_re,va_im,vb_re,vb_im,vc_re,vc_im,tol,sweeps\nS,720000,0,-360000,-623538,-360000,623538,1,20\n\nfrom,to,phases,kind,p1,p2,p3,p4,p5,p6,p7,p8,p9,p10,p11,p12\nS,N1,A,R,9999999999999999999,0,0,0,0,0,0,0,0,0,0,0\n\nnode,phase,kind,vn,p,q\nN1,A,P,720000,0,0\n") 1000000 ≡ NoReport (Layout 5)
+unfolding opened
+v00834 = refl
+
+-- 00849-shape-tap-'000000000000000000'
+v00849 : studyOf (bytes "source,va_re,va_im,vb_re,vb_im,vc_re,vc_im,tol,sweeps\nS,720000,0,-360000,-623538,-360000,623538,1,20\n\nfrom,to,phases,kind,p1,p2,p3,p4,p5,p6,p7,p8,p9,p10,p11,p12\nS,N1,A,R,000000000000000000,0,0,0,0,0,0,0,0,0,0,0\n\nnode,phase,kind,vn,p,q\nN1,A,P,720000,0,0\n") 1000000 ≡ NoReport (Layout 5)
+unfolding opened
+v00849 = refl
+
+-- 00864-shape-tap-'1\r'
+v00864 : studyOf (bytes "source,va_re,va_im,vb_re,vb_im,vc_re,vc_im,tol,sweeps\nS,720000,0,-360000,-623538,-360000,623538,1,20\n\nfrom,to,phases,kind,p1,p2,p3,p4,p5,p6,p7,p8,p9,p10,p11,p12\nS,N1,A,R,1\r,0,0,0,0,0,0,0,0,0,0,0\n\nnode,phase,kind,vn,p,q\nN1,A,P,720000,0,0\n") 1000000 ≡ NoReport (Layout 5)
+unfolding opened
+v00864 = refl
+
+-- 00874-shape-tap-'\xb2'
+v00874 : studyOf (bytes "source,va_re,va_im,vb_re,vb_im,vc_re,vc_im,tol,sweeps\nS,720000,0,-360000,-623538,-360000,623538,1,20\n\nfrom,to,phases,kind,p1,p2,p3,p4,p5,p6,p7,p8,p9,p10,p11,p12\nS,N1,A,R,²,0,0,0,0,0,0,0,0,0,0,0\n\nnode,phase,kind,vn,p,q\nN1,A,P,720000,0,0\n") 1000000 ≡ NoReport (Layout 5)
+unfolding opened
+v00874 = refl
+
+-- 00959-fault-11l-10src2-11b
+v00959 : studyOf (bytes "source,va_re,va_im,vb_re,vb_im,vc_re,vc_im,tol,sweeps\n70SDJZWH,-12218,797,7229,9578,4912,-11598,0,2\n70SDJZWH,-12218,797,7229,9578,4912,-11598,0,2\n\nfrom,to,phases,kind,p1,p2,p3,p4,p5,p6,p7,p8,p9,p10,p11,p12\n70SDJZWH,T,ABC,L,1,1,0,0,-29084176404649518,0,1,0,0,0,1,1\nT,VOHY,ABC,L,46107,21503,9140,10900,23743,-24447,29330,20110,0,0,47989,39962\nT,VFTJ,BC,L,0,0,0,0,0,0,2338,1319,636,-2163,4073,1687\n\nnode,phase,kind,vn,p,q\nVFTJ,B,Z,12000,0,0\nVFTJ,B,I,12659,50,31\n70SDJZWH,B,I,12000,41,4\n70SDJZWH,A,I,12000,4,4\nT,C,P,12000,0,0\n70SDJZWH,B,I,14223,0,0\nVFTJ,C,P,-999999999999999999,605,185\nVFTJ,B,I,12000,7,0\nT,C,P,12000,23,2\nVFTJ,C,Z,12000,0,-1\n70SDJZWH,C,Z,10171,1071,-233\nVOHY,C,Z,12843,10,11\nVOHY,B,P,10400,546,43\nVOHY,B,Z,11603,2077,579\nVFTJ,B,Z,13566,0,0\nVOHY,B,P,12292,450,238\nVOHY,A,P,12000,6,4\nT,B,Z,14282,3,2\n70SDJZWH,B,Z,10109,363,157\nVOHY,A,P,12000,0,0\nVFTJ,C,P,12000,3,3\nVOHY,C,P,12000,0,0\n70SDJZWH,A,Z,12000,0,-21\nVFTJ,B,Z,12000,0,0\nT,C,P,12000,430,369\n") 1000000 ≡ NoReport (Layout 3)
+unfolding opened
+v00959 = refl
+
+-- 01058-fault-10num
+v01058 : studyOf (bytes "source,va_re,va_im,vb_re,vb_im,vc_re,vc_im,tol,sweeps\nG,717453,30475,-333214,-638254,-386137,607699,0,1\n\nfrom,to,phases,kind,p1,p2,p3,p4,p5,p6,p7,p8,p9,p10,p11,p12\nG,K9,ABC,L,7645776,26678677,0,0,12359378,8394887,27082232,-24433118,6389566,-12130009,27877669,1\r\n\nnode,phase,kind,vn,p,q\nG,B,Z,720000,42190,15913\nG,A,I,720000,104,102\nK9,C,P,720000,278,136\nG,C,I,604114,23137,2054\nG,A,I,720000,53,-6\n") 1000000 ≡ NoReport (Layout 5)
+unfolding opened
+v01058 = refl

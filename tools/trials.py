@@ -1,0 +1,230 @@
+#!/usr/bin/env python3
+"""Writes the trials that are made from test vectors, as theorems proved by computing, into crates/trials/specs:
+
+  Opened          every definition's name on one line, read from the crates' specs (no vectors); due again when a definition is added
+  Refusals        for each refusal of each call the smallest vector
+  StudyReports, StudyLayout, StudyRefusals, CheckPasses, CheckRefusals
+                  every STEPth vector whose files are under 3,000 bytes together, spread over the kinds of answer
+  Accounts        the power account's numbers for every STEPth passing vector, worked out here a second time from document 01
+
+Run it in the repository's root: python3 tools/trials.py VECTORS [STEP], then rt fmt and rt check trials. VECTORS is a folder with index.jsonl,
+one case to a line: name, call, feeder and report (files), buffer (null: a large one), and the expected answer. STEP is 10 if not given.
+"""
+import json, math, os, re, sys
+
+SPECS = 'crates/trials/specs/'
+DEFINITIONS = {'integers': 'Rounding Root Pairs Lists', 'text': 'Text Lines', 'feeder': 'Layout Feeder', 'equations': 'Equations',
+               'report': 'Report', 'ladder': 'Ladder Study', 'report_check': 'Check', 'account': 'Account'}
+REFUSALS = {10: 'Layout', 11: 'OutOfLimit', 20: 'UnknownFrom', 21: 'SecondTo', 22: 'NotReached', 23: 'PhaseAbsent', 24: 'NotZero',
+            30: 'ZeroVoltage', 31: 'LoadBeyond', 32: 'CurrentBeyond', 33: 'VoltageBeyond', 34: 'NotSettled', 40: 'BufferShort',
+            50: 'ReportLayout', 51: 'NameDiffers', 52: 'SourceDiffers', 53: 'CurrentDiffers', 54: 'VoltageOff', 55: 'TotalDiffers'}
+NO_VALUE = (50, 55)
+LARGE = 1000000
+
+
+# ---- the cases
+def read(name):
+    return open(os.path.join(VECTORS, name), 'rb').read() if name else b''
+
+
+def cases():
+    for line in open(os.path.join(VECTORS, 'index.jsonl')):
+        case = json.loads(line)
+        case['f'], case['r'] = read(case['feeder']), read(case['report'])
+        case['size'] = len(case['f']) + len(case['r'])
+        case['kind'] = (case['call'], case['expected']['answer'], case['expected'].get('number', 0))
+        if case['size'] < 3000 and case['kind'][2] != 9:
+            yield case
+
+
+def tables(data):
+    return [[row.split(',') for row in table.split('\n')[1:] if row] for table in data.decode().split('\n\n')]
+
+
+# The line that is returned: the least of those that document 01 allows; for 54 the first that hangs below no other of them.
+def value(case):
+    values = sorted(case['expected']['values'])
+    if case['kind'][2] == 54:
+        branches = tables(case['f'])[1]
+        line = {b[1]: k + 3 for k, b in enumerate(branches)}
+        above = {line[b[1]]: line.get(b[0], 2) for b in branches}
+
+        def below_other(n):
+            n = above.get(n)
+            return n is not None and (n in values or below_other(n))
+        values = [n for n in values if not below_other(n)]
+    return values[0]
+
+
+# ---- a case as a theorem
+def text(data):
+    plain = {10: '\\n', 34: '\\"', 92: '\\\\'}
+    return '(bytes "' + ''.join(plain.get(b, chr(b) if 32 <= b < 127 else '\\u{%x}' % b) for b in data) + '")'
+
+
+def theorem(name, case):
+    call, answer, number = case['kind']
+    length = LARGE if case['buffer'] is None else case['buffer']
+    if answer == 'report':
+        report = read(case['expected']['file'])
+        sweeps = tables(report)[2][0][0]
+        said = f"fitted {text(case['f'])} {length} ≡ good (record {{ text = {text(report)[1:-1]}; sweeps = {sweeps} }})"
+    elif answer == 'pass':
+        said = f"checkOf {text(case['f'])} {text(case['r'])} ≡ Pass"
+    else:
+        refusal = REFUSALS[number] if number in NO_VALUE else f'({REFUSALS[number]} {value(case)})'
+        said = (f"studyOf {text(case['f'])} {length} ≡ NoReport {refusal}" if call == 'study' else
+                f"checkOf {text(case['f'])} {text(case['r'])} ≡ Fail {refusal}")
+    return proved(name, case, said)
+
+
+def proved(name, case, said):
+    return f"\n-- {case['name']}\n{name} : {said}\nunfolding opened\n{name} = refl\n"
+
+
+USES = [('mathlib.Core.Path', '_≡_ refl'), ('lib.IntN', 'pos negsuc'), ('Rattle.answers.specs.Answers', 'good'),
+        ('Rattle.answers.specs.declared.Refusal.the-variants', ' '.join(REFUSALS.values())), ('Rattle.text.specs.Text', 'bytes'),
+        ('Rattle.ladder.specs.Study', 'fitted studyOf'), ('Rattle.ladder.specs.declared.Study.the-variants', 'NoReport'),
+        ('Rattle.report_check.specs.Check', 'checkOf'), ('Rattle.report_check.specs.declared.Verdict.the-variants', 'Pass Fail'),
+        ('Rattle.trials.specs.Opened', 'opened accountOf')]
+
+
+def module(name, about, theorems):
+    theorems = list(theorems)
+    body = ''.join(theorems)
+    words = set(re.findall(r'[^\s(){};,"]+', body)) | {'_≡_'}
+    used = [(m, [n for n in names.split() if n in words]) for m, names in USES]
+    head = ''.join(f"use {m}.{{{', '.join(names)}}}\n" for m, names in used if names)
+    open(SPECS + name + '.antt', 'w').write(f'-- {about} Assumes nothing.\n{head}{body}')
+    print(f'{name}: {len(theorems)}')
+
+
+def opened():
+    uses, names = '', []
+    for crate, modules in DEFINITIONS.items():
+        for m in modules.split():
+            found = re.findall(r'^unfoldable pub (\S+) :', open(f'crates/{crate}/specs/{m}.antt').read(), re.M)
+            uses += f"use Rattle.{crate}.specs.{m}.{{{', '.join(found)}}}\n"
+            names += found
+    open(SPECS + 'Opened.antt', 'w').write(f'''-- Every definition behind the answers on one line: a trial computes them all by `unfolding opened`. Assumes nothing.
+use mathlib.Core.List.{{List}}
+use Prim.Native.Nat.{{ℕ}}
+use Rattle.answers.specs.Answers.{{Outcome, good, _>>=_}}
+use Rattle.integers.specs.declared.Pair.{{Pair}}
+{uses}
+-- says nothing by itself
+unfoldable pub opened : Unit {{0}}
+unfolding {' '.join(names)}
+opened = tt
+
+-- the power account's numbers for a feeder's and a report's text
+pub record Numbers : Type 0 where
+  pub differs : Pair
+  pub allowed : ℕ
+
+abbrev pub accountOf : List ℕ → List ℕ → Outcome Numbers
+accountOf s t = do
+  f ← reading s
+  r ← reportOf f t
+  good (record {{ differs = difference f r; allowed = allowance f r }})
+''')
+
+
+# ---- the power account in Python's whole numbers, a pair as (re, im)
+def rnd(x, b):
+    return tuple((2 * abs(n) + b) // (2 * b) * (1 if n >= 0 else -1) for n in x)
+
+
+def times(x, y):
+    return x[0] * y[0] - x[1] * y[1], x[0] * y[1] + x[1] * y[0]
+
+
+def conj(x):
+    return x[0], -x[1]
+
+
+def size(x):
+    return abs(x[0]) + abs(x[1])
+
+
+def pairs(fields):
+    n = [int(x) for x in fields]
+    return list(zip(n[::2], n[1::2]))
+
+
+def account(feeder, report):
+    (source,), branches, loads = tables(feeder)
+    nodes, flows, (totals,) = tables(report)
+    tol = int(source[7])
+    voltage = {n[0]: pairs(n[1:]) for n in nodes}
+    sums, allowed = [], 0
+    for node, phase, kind, vn, p, q in loads:
+        u, s, vn = voltage[node]['ABC'.index(phase)], (int(p) * 100000, int(q) * 100000), int(vn)
+        square = u[0] ** 2 + u[1] ** 2
+        w = {'P': square, 'I': math.isqrt(square) * vn, 'Z': vn * vn}[kind]
+        sums.append(s if kind == 'P' else rnd((s[0] * square, s[1] * square), w))
+        allowed += 2 * tol * size(rnd(times(conj(s), u), w)) + size(u) + 1
+    for b, flow in zip(branches, flows):
+        phases, kind, current = ['ABC'.index(x) for x in b[2]], b[3], pairs(flow[2:8])
+        v, i = (sum(size(x[k]) for k in phases) for x in (voltage[b[0]], current))
+        tols = 2 * tol * len(phases)
+        if kind == 'R':
+            allowed += v + tols + i
+            continue
+        if kind == 'L':
+            allowed += 1 + i
+            aa, ab, ac, bb, bc, cc = pairs(b[4:16])
+        else:
+            allowed += 1 + v + tols + 2 * i
+            aa, bb, cc = pairs(b[6:12])
+            ab = ac = bc = (0, 0)
+        z = [[aa, ab, ac], [ab, bb, bc], [ac, bc, cc]]
+        terms = [times(times(conj(current[j]), z[j][k]), current[k]) for j in range(3) for k in range(3)]
+        sums.append(rnd([sum(part) for part in zip(*terms)], 10000000))
+    differs = [int(totals[1 + k]) - sum(x[k] for x in sums) for k in (0, 1)]
+    assert all(2 * abs(d) <= allowed for d in differs)
+    return differs, allowed
+
+
+def account_theorem(case):
+    differs, allowed = account(case['f'], case['r'])
+    real, reactive = (f'pos {n}' if n >= 0 else f'negsuc {-n - 1}' for n in differs)
+    numbers = f'record {{ differs = record {{ re = {real}; im = {reactive} }}; allowed = {allowed} }}'
+    return proved('a' + case['name'][:5], case, f"accountOf {text(case['f'])} {text(case['r'])} ≡ good ({numbers})")
+
+
+# ---- the modules
+# Of each refusal the smallest vector. Where the check has none, a feeder that is refused before any report is read, with an empty report.
+def one_of_each(ordered):
+    smallest = {}
+    for case in sorted(ordered, key=lambda c: c['size']):
+        if case['kind'][1] == 'refuse' and len(case['f']) >= 150:
+            smallest.setdefault(case['kind'], case)
+    for (call, answer, number), case in list(smallest.items()):
+        if number <= 24:
+            kind = ('check', answer, number)
+            smallest.setdefault(kind, dict(case, kind=kind, r=b'', name=case['name'] + ', with an empty report'))
+    return [theorem(f'{kind[0]}-{kind[2]}', smallest[kind]) for kind in sorted(smallest)]
+
+
+def main():
+    opened()
+    ordered = sorted(cases(), key=lambda c: c['kind'])
+    module('Refusals', 'One trial for each refusal of each call, the smallest vector there is; 9 is in TooLong.', one_of_each(ordered))
+    chosen = ordered[STEP // 2::STEP]
+
+    def vectors(name, about, wanted):
+        module(name, f'Vectors: {about}.', [theorem('v' + c['name'][:5], c) for c in chosen if wanted(*c['kind'])])
+    vectors('StudyReports', 'feeders that the study reports on', lambda call, answer, n: answer == 'report')
+    vectors('StudyLayout', 'feeders whose layout the study refuses', lambda call, answer, n: call == 'study' and n == 10)
+    vectors('StudyRefusals', "the study's other refusals", lambda call, answer, n: call == 'study' and n > 10)
+    vectors('CheckPasses', 'reports that the check passes', lambda call, answer, n: answer == 'pass')
+    vectors('CheckRefusals', 'feeders and reports that the check refuses', lambda call, answer, n: call == 'check' and answer == 'refuse')
+    passing = [c for c in ordered if c['kind'][1] == 'pass']
+    module('Accounts', 'Power accounts of reports that pass: the difference, real and reactive, and the allowance.', map(account_theorem, passing[::STEP]))
+
+
+if len(sys.argv) < 2:
+    sys.exit(__doc__)
+VECTORS, STEP = sys.argv[1], int(sys.argv[2]) if len(sys.argv) > 2 else 10
+main()
