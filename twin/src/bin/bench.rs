@@ -1,0 +1,92 @@
+//! bench [ROUNDS]: medians of study, check and reading alone, for generated feeders of three sizes and three mixes of load.
+//!
+//! All in one process, the sides taking turns within each round. The output buffer has 65,536 bytes, is cleared once
+//! before the first run and never again. With the feature `proved` the proved code and its ratio to the twin stand beside.
+//! Reading alone is measured twice: by the twin's `read_feeder`, and on both sides by a check with an empty report (the
+//! feeder is read, then 50 comes at once).
+
+use std::hint::black_box;
+use std::time::Instant;
+use twin::generate::{sound, Mix, Random};
+use twin::outside::{Calls, PROVED, TWIN};
+use twin::{read_feeder, Answer, MAX_FILE};
+
+/// Nanoseconds of one run, from a batch of runs.
+fn time(batch: u32, mut run: impl FnMut()) -> f64 {
+    let start = Instant::now();
+    for _ in 0..batch {
+        run();
+    }
+    start.elapsed().as_nanos() as f64 / f64::from(batch)
+}
+
+fn median(times: &mut [f64]) -> f64 {
+    times.sort_by(f64::total_cmp);
+    times[times.len() / 2]
+}
+
+/// The first generated feeder of that size that settles, with tol 1 and at most 100 sweeps; with its report and sweeps.
+fn settling(branches: usize, loads: usize, mix: Mix) -> (Vec<u8>, Vec<u8>, u32) {
+    let mut random = Random::new(2024 + branches as u64);
+    loop {
+        let mut draft = sound(&mut random, branches, loads, mix);
+        draft.source[7] = "1".to_string();
+        draft.source[8] = "100".to_string();
+        let feeder = draft.text();
+        let mut out = vec![0; MAX_FILE];
+        if let Answer::Report { length, sweeps } = twin::study(&feeder, &mut out) {
+            // All three kinds of device and more than the least number of sweeps, so that sizes can be compared.
+            let kinds = ["R", "Y", "D"].iter().all(|kind| draft.branches.iter().any(|row| row[3] == *kind));
+            if kinds && (4..=8).contains(&sweeps) {
+                out.truncate(length);
+                return (feeder, out, sweeps);
+            }
+        }
+    }
+}
+
+fn main() {
+    let rounds: usize = std::env::args().nth(1).and_then(|n| n.parse().ok()).unwrap_or(301);
+    let sides: Vec<Calls> = std::iter::once(TWIN).chain(PROVED).collect();
+    println!("medians of {rounds} rounds in microseconds; buffers cleared once at the start, not between runs");
+    let more = if PROVED.is_some() { "      proved       ratio" } else { "" };
+    println!("{:<10}{:>9}{:>7}{:>8}  {:<28}{:>10}{more}", "loads are", "branches", "loads", "sweeps", "call", "twin");
+
+    let mut out = vec![0; MAX_FILE];
+    for (mix, name) in [(Mix::Power, "power"), (Mix::Current, "current"), (Mix::Mixed, "mixed")] {
+        for (branches, loads) in [(10, 15), (50, 75), (200, 300)] {
+            let (feeder, report, sweeps) = settling(branches, loads, mix);
+            let mut wrong = false;
+            let batch = (400 / branches) as u32;
+            let mut times = vec![Vec::with_capacity(rounds); 3 * sides.len() + 1];
+            for _ in 0..rounds {
+                for (side, calls) in sides.iter().enumerate() {
+                    let mut words = [0; 3];
+                    let study = time(batch, || words[0] = calls.study(black_box(&feeder), black_box(&mut out)));
+                    let check = time(batch, || words[1] = calls.check(black_box(&feeder), black_box(&report)));
+                    let empty = time(batch, || words[2] = calls.check(black_box(&feeder), black_box(&[])));
+                    wrong |= words != [report.len() as u64, 0, 50 << 32];
+                    times[3 * side].push(study);
+                    times[3 * side + 1].push(check);
+                    times[3 * side + 2].push(empty);
+                }
+                let read = time(batch, || drop(black_box(read_feeder(black_box(&feeder)))));
+                times[3 * sides.len()].push(read);
+            }
+            let medians: Vec<f64> = times.iter_mut().map(|times| median(times) / 1000.0).collect();
+            for (call, what) in ["study", "check", "check with an empty report"].into_iter().enumerate() {
+                print!("{name:<10}{branches:>9}{loads:>7}{sweeps:>8}  {what:<28}{:>10.2}", medians[call]);
+                if sides.len() > 1 {
+                    print!("{:>12.2}{:>12.2}", medians[3 + call], medians[3 + call] / medians[call]);
+                }
+                println!();
+            }
+            let what = "read_feeder";
+            println!("{name:<10}{branches:>9}{loads:>7}{sweeps:>8}  {what:<28}{:>10.2}", medians[3 * sides.len()]);
+            if wrong {
+                println!("a side's answers are not the twin's: these times mean nothing");
+                std::process::exit(1);
+            }
+        }
+    }
+}

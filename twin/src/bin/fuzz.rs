@@ -1,0 +1,229 @@
+//! fuzz [--self] [COUNT] [SEED]: compares the twin with the proved code on generated files.
+//!
+//! Every case is a feeder and a report. The study is run with buffers of many lengths, filled beforehand and with guard
+//! bytes around them, and the answer and every byte are compared; then the check. The first difference ends the run, and
+//! its files are written to the folder named by FUZZ_OUT (or here).
+//!
+//! `--self` compares the twin with itself through the same door. There TWIN_WRONG=KIND:N spoils the N-th call on the far
+//! side, to show that the fuzzer notices: KIND is `answer`, `byte` (in the report), `behind` (a byte behind it),
+//! `before` (a guard byte), `feeder` (writes into the feeder's bytes) or `check`.
+
+use std::collections::BTreeMap;
+use std::sync::atomic::{AtomicU64, Ordering};
+use twin::generate::{any_feeder, any_report, Random};
+use twin::outside::{twin_check, twin_study, Calls, PROVED};
+use twin::{account, Answer, MAX_FILE};
+
+const GUARD: usize = 64;
+
+/// The N-th call of that kind is to be spoiled.
+static WRONG_AT: AtomicU64 = AtomicU64::new(0);
+static WRONG_KIND: AtomicU64 = AtomicU64::new(0);
+static STUDIES: AtomicU64 = AtomicU64::new(0);
+static CHECKS: AtomicU64 = AtomicU64::new(0);
+const KINDS: [&str; 7] = ["", "answer", "byte", "behind", "before", "feeder", "check"];
+
+unsafe extern "C" fn self_study(feeder: *const u8, feeder_len: usize, out: *mut u8, out_len: usize) -> u64 {
+    let word = twin_study(feeder, feeder_len, out, out_len);
+    if STUDIES.fetch_add(1, Ordering::Relaxed) + 1 < WRONG_AT.load(Ordering::Relaxed) {
+        return word;
+    }
+    let length = if word < 1 << 32 { word as usize } else { 0 };
+    match KINDS[WRONG_KIND.load(Ordering::Relaxed) as usize] {
+        "answer" => return word ^ 1,
+        "byte" if length > 0 => *out.add(length / 2) ^= 1,
+        "behind" if length < out_len => *out.add(length) ^= 1,
+        "before" => *out.sub(1) ^= 1,
+        "feeder" if feeder_len > 0 => *feeder.cast_mut() ^= 1,
+        _ => {}
+    }
+    word
+}
+
+unsafe extern "C" fn self_check(feeder: *const u8, feeder_len: usize, report: *const u8, report_len: usize) -> u64 {
+    let word = twin_check(feeder, feeder_len, report, report_len);
+    let nth = CHECKS.fetch_add(1, Ordering::Relaxed) + 1;
+    let spoiled =
+        KINDS[WRONG_KIND.load(Ordering::Relaxed) as usize] == "check" && nth >= WRONG_AT.load(Ordering::Relaxed);
+    if spoiled {
+        word ^ 1 << 32
+    } else {
+        word
+    }
+}
+
+/// A buffer with guard bytes on both sides, all filled with a pattern.
+struct Guarded {
+    bytes: Vec<u8>,
+}
+
+impl Guarded {
+    fn new(length: usize, salt: u8) -> Self {
+        Guarded { bytes: (0..length + 2 * GUARD).map(|at| (at as u8).wrapping_mul(31) ^ salt).collect() }
+    }
+
+    fn middle(&mut self) -> &mut [u8] {
+        let end = self.bytes.len() - GUARD;
+        &mut self.bytes[GUARD..end]
+    }
+
+    /// The middle as a pointer that may also reach the guard bytes, so that a call which does is noticed.
+    fn pointer(&mut self) -> *mut u8 {
+        // SAFETY: there are at least 2·GUARD bytes.
+        unsafe { self.bytes.as_mut_ptr().add(GUARD) }
+    }
+}
+
+/// The number that an answer is counted under: report, pass or the refusal's.
+fn label(answer: Answer) -> String {
+    match answer {
+        Answer::Report { .. } => "report".to_string(),
+        Answer::Pass => "pass".to_string(),
+        Answer::Refused { number, .. } => number.to_string(),
+    }
+}
+
+#[derive(Default)]
+struct Counts {
+    studies: BTreeMap<String, u64>,
+    checks: BTreeMap<String, u64>,
+    calls: u64,
+}
+
+/// Runs both sides on one case, in all buffers and with the report; the error says what differs.
+fn compare(far: &Calls, feeder: &[u8], report: &[u8], salt: u8, counts: &mut Counts) -> Result<(), String> {
+    let mut large = Guarded::new(MAX_FILE, salt);
+    let first = twin::study(feeder, large.middle());
+    *counts.studies.entry(label(first)).or_default() += 1;
+
+    let mut lengths = vec![MAX_FILE, 0, 1];
+    if let Answer::Report { length: needed, .. } = first {
+        lengths.extend(needed.saturating_sub(2)..=needed + 2);
+        lengths.extend([needed / 2, needed + 1000, 2 * needed]);
+    } else {
+        lengths.push(300);
+    }
+    let mut own_feeder = feeder.to_vec();
+    let mut own_report = report.to_vec();
+    for length in lengths {
+        let (mut near, mut away) = (Guarded::new(length, salt), Guarded::new(length, salt));
+        let answer = twin::study(feeder, near.middle());
+        // SAFETY: the regions are valid for their lengths; the feeder's too is lent from a `mut`, as the comparison
+        // below is there to notice a call that writes to it.
+        let word = unsafe { (far.study)(own_feeder.as_mut_ptr(), own_feeder.len(), away.pointer(), length) };
+        counts.calls += 1;
+        if word != answer.word() {
+            let (number, value) = (word >> 32, word & 0xFFFF_FFFF);
+            return Err(format!("study, buffer of {length}: the twin says {answer:?}, the other {number} {value}"));
+        }
+        if matches!(answer, Answer::Refused { .. }) {
+            if near.bytes != Guarded::new(length, salt).bytes {
+                return Err(format!("study, buffer of {length}: {answer:?}, and the twin's buffer is changed"));
+            }
+            if let Answer::Refused { number: 40, .. } = answer {
+                *counts.studies.entry("40".to_string()).or_default() += 1;
+            }
+        }
+        if let Some(at) = near.bytes.iter().zip(&away.bytes).position(|(a, b)| a != b) {
+            let at = at as i64 - GUARD as i64;
+            return Err(format!("study, buffer of {length}: {answer:?}, and byte {at} differs"));
+        }
+    }
+
+    // The study's own report must pass, on both sides.
+    if let Answer::Report { length, .. } = first {
+        let mut own = large.middle()[..length].to_vec();
+        compare_check(far, &mut own_feeder, &mut own, counts, Some(Answer::Pass))?;
+    }
+    compare_check(far, &mut own_feeder, &mut own_report, counts, None)?;
+    if own_feeder != feeder || own_report != report {
+        return Err("the feeder's or the report's bytes are changed".to_string());
+    }
+    Ok(())
+}
+
+fn compare_check(
+    far: &Calls,
+    feeder: &mut [u8],
+    report: &mut [u8],
+    counts: &mut Counts,
+    due: Option<Answer>,
+) -> Result<(), String> {
+    let answer = twin::check(feeder, report);
+    *counts.checks.entry(label(answer)).or_default() += 1;
+    counts.calls += 1;
+    if due.is_some_and(|due| due != answer) {
+        return Err(format!("check: the twin refuses its own report, {answer:?}"));
+    }
+    // SAFETY: as in the study.
+    let word = unsafe { (far.check)(feeder.as_mut_ptr(), feeder.len(), report.as_mut_ptr(), report.len()) };
+    if word != answer.word() {
+        let (number, value) = (word >> 32, word & 0xFFFF_FFFF);
+        return Err(format!("check: the twin says {answer:?}, the other {number} {value}"));
+    }
+    // Demand 3, for every report that passes.
+    if answer == Answer::Pass && !account::account_of(feeder, report).is_some_and(|account| account.holds()) {
+        return Err("check: a pass, but the power account does not hold".to_string());
+    }
+    Ok(())
+}
+
+fn line(name: &str, counts: &BTreeMap<String, u64>) {
+    let mut list: Vec<_> = counts.iter().collect();
+    list.sort_by_key(|(label, _)| label.parse::<u32>().unwrap_or(0));
+    let list: Vec<String> = list.iter().map(|(label, count)| format!("{label}: {count}")).collect();
+    println!("{name}  {}", list.join(", "));
+}
+
+fn main() {
+    let mut numbers = Vec::new();
+    let mut with_self = false;
+    for word in std::env::args().skip(1) {
+        match (word.as_str(), word.parse::<u64>()) {
+            ("--self", _) => with_self = true,
+            (_, Ok(number)) => numbers.push(number),
+            _ => {
+                eprintln!("usage: fuzz [--self] [COUNT] [SEED]");
+                std::process::exit(2);
+            }
+        }
+    }
+    let count = numbers.first().copied().unwrap_or(20_000);
+    let seed = numbers.get(1).copied().unwrap_or(1);
+
+    let far = if with_self {
+        if let Some((kind, at)) = std::env::var("TWIN_WRONG").ok().as_deref().and_then(|text| text.split_once(':')) {
+            let kind = KINDS.iter().position(|known| *known == kind).expect("a kind of TWIN_WRONG");
+            WRONG_KIND.store(kind as u64, Ordering::Relaxed);
+            WRONG_AT.store(at.parse().expect("a number in TWIN_WRONG"), Ordering::Relaxed);
+        }
+        Calls { study: self_study, check: self_check }
+    } else {
+        PROVED.unwrap_or_else(|| {
+            eprintln!("the proved library is not linked: build with --features proved, or run with --self");
+            std::process::exit(2);
+        })
+    };
+
+    let mut counts = Counts::default();
+    for case in 0..count {
+        // Each case has its own seed, so that one can be made again alone.
+        let mut random =
+            Random::new(seed.wrapping_mul(0x2545_F491_4F6C_DD1D) ^ case.wrapping_mul(0x9E6C_63D0_876A_3F6B));
+        let feeder = any_feeder(&mut random);
+        let report = any_report(&mut random, &feeder);
+        let salt = random.word() as u8;
+        if let Err(difference) = compare(&far, &feeder, &report, salt, &mut counts) {
+            let folder = std::env::var("FUZZ_OUT").unwrap_or_else(|_| ".".to_string());
+            let stem = format!("{folder}/difference-{seed}-{case}");
+            std::fs::write(format!("{stem}.feeder"), &feeder).expect("the feeder's file");
+            std::fs::write(format!("{stem}.report"), &report).expect("the report's file");
+            println!("case {case} of seed {seed}: {difference}");
+            println!("written to {stem}.feeder and .report");
+            std::process::exit(1);
+        }
+    }
+    line("study", &counts.studies);
+    line("check", &counts.checks);
+    println!("{count} cases of seed {seed}, {} calls on each side, 0 differences", counts.calls);
+}

@@ -1,0 +1,112 @@
+//! vectors FOLDER: runs all cases of the folder's index.jsonl and prints the differences.
+//!
+//! Where several values are allowed, the answer must be the first of them; for 54, where the first by the file need not
+//! be the first that is fed through none that is off, it must be among them (and a note is printed where it is not first).
+
+use std::path::Path;
+use twin::Answer;
+
+/// The text behind `"key": ` in a line of JSON as the index has it: no nested keys of the same name, no escaped quotes
+/// in what we look up.
+fn behind<'a>(line: &'a str, key: &str) -> Option<&'a str> {
+    let mark = format!("\"{key}\": ");
+    line.find(&mark).map(|at| &line[at + mark.len()..])
+}
+
+fn word<'a>(line: &'a str, key: &str) -> Option<&'a str> {
+    behind(line, key)?.strip_prefix('"')?.split('"').next()
+}
+
+fn number(line: &str, key: &str) -> Option<usize> {
+    let rest = behind(line, key)?;
+    let end = rest.find(|c: char| !c.is_ascii_digit()).unwrap_or(rest.len());
+    rest[..end].parse().ok()
+}
+
+fn values(line: &str) -> Option<Vec<u64>> {
+    let list = behind(line, "values")?.strip_prefix('[')?.split(']').next()?;
+    list.split(", ").map(|value| value.parse().ok()).collect()
+}
+
+/// The byte that a buffer holds beforehand.
+fn before(at: usize) -> u8 {
+    (at * 7 + 3) as u8
+}
+
+/// What is wrong with the answer to the case, if anything; `first` counts cases where a value is free and ours is the
+/// first allowed, `other` where it is not.
+fn run(folder: &Path, line: &str, first: &mut usize, other: &mut usize) -> Result<(), String> {
+    let read = |name: &str| std::fs::read(folder.join(name)).map_err(|e| format!("{name}: {e}"));
+    let call = word(line, "call").ok_or("no call")?;
+    let feeder = read(word(line, "feeder").ok_or("no feeder")?)?;
+    let expected = behind(line, "expected").ok_or("nothing expected")?;
+
+    let length = number(line, "buffer").unwrap_or(100_000);
+    let mut buffer: Vec<u8> = (0..length).map(before).collect();
+    let answer = match call {
+        "study" => twin::study(&feeder, &mut buffer),
+        "check" => twin::check(&feeder, &read(word(line, "report").ok_or("no report")?)?),
+        _ => return Err(format!("unknown call {call}")),
+    };
+    let written = if let Answer::Report { length, .. } = answer { length } else { 0 };
+    if (written..length).any(|at| buffer[at] != before(at)) {
+        return Err(format!("{answer:?}, and bytes behind it are changed"));
+    }
+
+    match (word(expected, "answer"), answer) {
+        (Some("report"), Answer::Report { length, .. }) => {
+            let due = read(word(expected, "file").ok_or("no file")?)?;
+            if buffer[..length] != due {
+                return Err("another report".to_string());
+            }
+            // The third table's row begins with the sweeps; the answer must have the same.
+            let row = buffer[..length].split(|b| *b == b'\n').rev().nth(1).unwrap_or_default();
+            let Answer::Report { sweeps, .. } = answer else { unreachable!() };
+            if !row.starts_with(format!("{sweeps},").as_bytes()) {
+                return Err("the answer's sweeps are not the report's".to_string());
+            }
+            Ok(())
+        }
+        (Some("pass"), Answer::Pass) => Ok(()),
+        (Some("refuse"), Answer::Refused { number: n, value }) => {
+            let due = number(expected, "number").ok_or("no number")?;
+            let allowed = values(expected).ok_or("no values")?;
+            if n as usize != due || !allowed.contains(&value) {
+                return Err(format!("refused {n} {value}, due {due} {allowed:?}"));
+            }
+            if allowed.len() > 1 {
+                if value == allowed.iter().copied().min().unwrap_or(0) {
+                    *first += 1;
+                } else if n == 54 {
+                    *other += 1;
+                } else {
+                    return Err(format!("refused {n} {value}, which is allowed but not the first of {allowed:?}"));
+                }
+            }
+            Ok(())
+        }
+        _ => Err(format!("{answer:?}, due {expected}")),
+    }
+}
+
+fn main() {
+    let Some(folder) = std::env::args().nth(1) else {
+        eprintln!("usage: vectors FOLDER");
+        std::process::exit(2);
+    };
+    let folder = Path::new(&folder);
+    let index = std::fs::read_to_string(folder.join("index.jsonl")).expect("index.jsonl");
+    let (mut cases, mut differences, mut first, mut other) = (0, 0, 0, 0);
+    for line in index.lines() {
+        cases += 1;
+        if let Err(reason) = run(folder, line, &mut first, &mut other) {
+            differences += 1;
+            println!("{}: {reason}", word(line, "name").unwrap_or("?"));
+        }
+    }
+    println!("value free in {} cases: the first allowed in {first}, another (54 only) in {other}", first + other);
+    println!("{cases} cases, {differences} differences");
+    if differences > 0 || cases == 0 {
+        std::process::exit(1);
+    }
+}

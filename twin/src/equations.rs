@@ -1,0 +1,246 @@
+//! The equations of one load and one branch, in whole numbers.
+
+use crate::feeder::{Branch, Connection, Device, Kind, Load};
+
+/// Voltages and currents go from −LIMIT to LIMIT, re and im each.
+pub const LIMIT: i64 = 2_000_000;
+
+/// µΩ times mA is this many times smaller than a cV.
+const DROP_SCALE: i64 = 10_000_000;
+
+/// Grains in a VA.
+const GRAINS: i64 = 100_000;
+
+/// A voltage, a current, an impedance or a power.
+#[derive(Clone, Copy, Debug, Default, PartialEq, Eq)]
+pub struct Pair {
+    pub re: i64,
+    pub im: i64,
+}
+
+/// A voltage or a current on A, B and C.
+pub type Phases = [Pair; 3];
+
+pub const ZERO: Pair = Pair { re: 0, im: 0 };
+pub const NONE: Phases = [ZERO; 3];
+
+impl std::ops::Add for Pair {
+    type Output = Pair;
+    fn add(self, other: Pair) -> Pair {
+        Pair { re: self.re + other.re, im: self.im + other.im }
+    }
+}
+
+impl std::ops::AddAssign for Pair {
+    fn add_assign(&mut self, other: Pair) {
+        *self = *self + other;
+    }
+}
+
+impl std::ops::Sub for Pair {
+    type Output = Pair;
+    fn sub(self, other: Pair) -> Pair {
+        Pair { re: self.re - other.re, im: self.im - other.im }
+    }
+}
+
+impl std::ops::Mul for Pair {
+    type Output = Pair;
+    fn mul(self, other: Pair) -> Pair {
+        Pair { re: self.re * other.re - self.im * other.im, im: self.re * other.im + self.im * other.re }
+    }
+}
+
+impl Pair {
+    pub fn conj(self) -> Pair {
+        Pair { re: self.re, im: -self.im }
+    }
+
+    pub fn times(self, factor: i64) -> Pair {
+        Pair { re: factor * self.re, im: factor * self.im }
+    }
+
+    pub fn rnd(self, divisor: i64) -> Pair {
+        Pair { re: rnd(self.re, divisor), im: rnd(self.im, divisor) }
+    }
+
+    /// Whether re or im is further than `bound` from 0.
+    pub fn beyond(self, bound: i64) -> bool {
+        self.re.abs() > bound || self.im.abs() > bound
+    }
+
+    /// re² + im²
+    pub fn square(self) -> i64 {
+        self.re * self.re + self.im * self.im
+    }
+}
+
+/// a/b to the nearest whole number, a tie going away from zero; b is positive.
+pub fn rnd(a: i64, b: i64) -> i64 {
+    let (quotient, rest) = (a / b, (a % b).abs());
+    if rest >= b - rest {
+        quotient + a.signum()
+    } else {
+        quotient
+    }
+}
+
+/// The greatest whole m with m·m ≤ n; n is not negative.
+pub fn root(n: i64) -> i64 {
+    n.isqrt()
+}
+
+/// The load's current at voltage `v`; `None` for a P or I load at zero voltage.
+pub fn load_current(load: &Load, v: Pair) -> Option<Pair> {
+    let w = match load.kind {
+        Kind::Power => v.square(),
+        Kind::Current => root(v.square()) * load.vn,
+        Kind::Impedance => load.vn * load.vn,
+    };
+    if w == 0 {
+        return None;
+    }
+    Some((load.s().conj() * v).rnd(w))
+}
+
+impl Load {
+    /// The rated power in grains.
+    pub fn s(&self) -> Pair {
+        Pair { re: self.p, im: self.q }.times(GRAINS)
+    }
+}
+
+/// The drop over the branch with current `i` at its to-node.
+pub fn drop(device: &Device, i: &Phases) -> Phases {
+    match device {
+        Device::Line { z } => {
+            let [aa, ab, ac, bb, bc, cc] = *z;
+            let [a, b, c] = *i;
+            [aa * a + ab * b + ac * c, ab * a + bb * b + bc * c, ac * a + bc * b + cc * c]
+                .map(|sum| sum.rnd(DROP_SCALE))
+        }
+        Device::Regulator { .. } => NONE,
+        Device::Transformer { z, .. } => [z[0] * i[0], z[1] * i[1], z[2] * i[2]].map(|product| product.rnd(DROP_SCALE)),
+    }
+}
+
+/// The voltage at the branch's to-node, from that at its from-node and the drop.
+pub fn voltage(branch: &Branch, v: &Phases, drop: &Phases) -> Phases {
+    let mut below = match &branch.device {
+        Device::Line { .. } => *v,
+        Device::Regulator { taps } => {
+            let side = |k: usize| v[k].times(160).rnd(160 - taps[k]);
+            [side(0), side(1), side(2)]
+        }
+        Device::Transformer { connection, n, m, .. } => {
+            let [a, b, c] = *v;
+            match connection {
+                Connection::Wye => [a, b, c],
+                Connection::Delta => [a - c, b - a, c - b],
+            }
+            .map(|av| av.times(*m).rnd(*n))
+        }
+    };
+    for (k, side) in below.iter_mut().enumerate() {
+        *side = if branch.phases & 1 << k != 0 { *side - drop[k] } else { ZERO };
+    }
+    below
+}
+
+/// What the branch takes at its from-node, from its current at the to-node.
+pub fn taken(device: &Device, i: &Phases) -> Phases {
+    match device {
+        Device::Line { .. } => *i,
+        Device::Regulator { taps } => {
+            let side = |k: usize| i[k].times(160).rnd(160 - taps[k]);
+            [side(0), side(1), side(2)]
+        }
+        Device::Transformer { connection, n, m, .. } => {
+            let [a, b, c] = *i;
+            match connection {
+                Connection::Wye => [a, b, c],
+                Connection::Delta => [a - b, b - c, c - a],
+            }
+            .map(|di| di.times(*m).rnd(*n))
+        }
+    }
+}
+
+/// Sum over the phases of V·conj(I).
+pub fn power(v: &Phases, i: &Phases) -> Pair {
+    v[0] * i[0].conj() + v[1] * i[1].conj() + v[2] * i[2].conj()
+}
+
+/// The branch's loss: sum of D·conj(I).
+pub fn loss(device: &Device, i: &Phases) -> Pair {
+    power(&drop(device, i), i)
+}
+
+#[cfg(test)]
+mod tests {
+    use super::*;
+
+    fn pair(re: i64, im: i64) -> Pair {
+        Pair { re, im }
+    }
+
+    fn load(kind: Kind, vn: i64, p: i64, q: i64) -> Load {
+        Load { name: 0, node: 0, phase: 0, kind, vn, p, q }
+    }
+
+    fn regulator(tap: i64) -> Branch {
+        let device = Device::Regulator { taps: [tap, 0, 0] };
+        Branch { from: 0, to: 0, parent: 0, phases: 1, device }
+    }
+
+    #[test]
+    fn rounding() {
+        assert_eq!(rnd(5, 2), 3);
+        assert_eq!(rnd(-5, 2), -3);
+        assert_eq!(rnd(4, 3), 1);
+        assert_eq!((rnd(0, 7), rnd(1, 3), rnd(2, 3), rnd(-1, 3), rnd(-2, 3)), (0, 0, 1, 0, -1));
+        assert_eq!((rnd(1, 2), rnd(-1, 2), rnd(3, 2), rnd(-3, 2), rnd(7, 1)), (1, -1, 2, -2, 7));
+        assert_eq!(rnd(i64::MAX, 1), i64::MAX);
+        assert_eq!(rnd(-i64::MAX, i64::MAX), -1);
+    }
+
+    #[test]
+    fn roots() {
+        assert_eq!(root(15), 3);
+        assert_eq!(root(16), 4);
+        for m in [0i64, 1, 2, 3, 719_999, 720_000, 2_828_427] {
+            assert_eq!(root(m * m), m);
+            assert_eq!(root(m * m + 2 * m), m);
+        }
+    }
+
+    #[test]
+    fn taps() {
+        let v = [pair(720_000, 0), ZERO, ZERO];
+        assert_eq!(voltage(&regulator(16), &v, &NONE), [pair(800_000, 0), ZERO, ZERO]);
+        assert_eq!(voltage(&regulator(-16), &v, &NONE), [pair(654_545, 0), ZERO, ZERO]);
+    }
+
+    #[test]
+    fn loads() {
+        let p = load(Kind::Power, 720_000, 72_000, 0);
+        assert_eq!(load_current(&p, pair(719_000, 0)), Some(pair(10_014, 0)));
+        assert_eq!(load_current(&p, ZERO), None);
+        let i = load(Kind::Current, 500_000, 100, 0);
+        assert_eq!(load_current(&i, pair(300_000, 400_000)), Some(pair(12, 16)));
+        assert_eq!(load_current(&i, ZERO), None);
+        let z = load(Kind::Impedance, 720_000, 0, -720);
+        assert_eq!(load_current(&z, pair(720_000, 0)), Some(pair(0, 100)));
+        assert_eq!(load_current(&z, ZERO), Some(ZERO));
+    }
+
+    #[test]
+    fn delta() {
+        let device = Device::Transformer { connection: Connection::Delta, n: 12_470, m: 2_400, z: [ZERO; 3] };
+        let branch = Branch { from: 0, to: 0, parent: 0, phases: 7, device };
+        let v = [pair(720_000, 0), pair(-360_000, -623_538), pair(-360_000, 623_538)];
+        assert_eq!(voltage(&branch, &v, &NONE)[0], pair(207_859, -120_007));
+        let j = taken(&branch.device, &[pair(1000, 0), ZERO, ZERO]);
+        assert_eq!(j, [pair(192, 0), ZERO, pair(-192, 0)]);
+    }
+}

@@ -1,0 +1,851 @@
+//! A seeded generator of feeders and reports: sound, mangled, at the limits, and edited.
+
+use crate::equations::{Pair, Phases, LIMIT, NONE};
+use crate::feeder::{read_feeder, Feeder, BRANCH_HEADER, LOAD_HEADER, MAX_BRANCHES, MAX_LOADS, SOURCE_HEADER};
+use crate::ladder::{settle, Currents, Powers};
+use crate::report::write_rows;
+use crate::MAX_FILE;
+
+/// Splitmix64.
+#[derive(Clone)]
+pub struct Random(u64);
+
+impl Random {
+    pub fn new(seed: u64) -> Self {
+        Random(seed)
+    }
+
+    pub fn word(&mut self) -> u64 {
+        self.0 = self.0.wrapping_add(0x9E37_79B9_7F4A_7C15);
+        let mut z = self.0;
+        z = (z ^ (z >> 30)).wrapping_mul(0xBF58_476D_1CE4_E5B9);
+        z = (z ^ (z >> 27)).wrapping_mul(0x94D0_49BB_1331_11EB);
+        z ^ (z >> 31)
+    }
+
+    /// 0 to n − 1; 0 for n = 0.
+    pub fn below(&mut self, n: usize) -> usize {
+        (self.word() % n.max(1) as u64) as usize
+    }
+
+    /// low to high, both met.
+    pub fn between(&mut self, low: i64, high: i64) -> i64 {
+        low + (self.word() % (high - low + 1).max(1) as u64) as i64
+    }
+
+    /// True once in n times.
+    pub fn once_in(&mut self, n: usize) -> bool {
+        self.below(n) == 0
+    }
+
+    pub fn pick<'a, T>(&mut self, list: &'a [T]) -> &'a T {
+        &list[self.below(list.len())]
+    }
+
+    fn share(&mut self) -> f64 {
+        (self.word() >> 11) as f64 / (1u64 << 53) as f64
+    }
+
+    fn shuffle<T>(&mut self, list: &mut [T]) {
+        for k in (1..list.len()).rev() {
+            list.swap(k, self.below(k + 1));
+        }
+    }
+}
+
+/// Which kinds of load a feeder has.
+#[derive(Clone, Copy, Debug, PartialEq, Eq)]
+pub enum Mix {
+    Power,
+    Current,
+    Mixed,
+}
+
+/// A feeder file in fields, to be edited before it is written.
+#[derive(Clone, Default)]
+pub struct Draft {
+    pub source: Vec<String>,
+    pub branches: Vec<Vec<String>>,
+    pub loads: Vec<Vec<String>>,
+}
+
+impl Draft {
+    pub fn text(&self) -> Vec<u8> {
+        let mut text = format!("{SOURCE_HEADER}\n{}\n\n{BRANCH_HEADER}\n", self.source.join(","));
+        for row in &self.branches {
+            text += &row.join(",");
+            text.push('\n');
+        }
+        text += "\n";
+        text += LOAD_HEADER;
+        text.push('\n');
+        for row in &self.loads {
+            text += &row.join(",");
+            text.push('\n');
+        }
+        text.into_bytes()
+    }
+}
+
+struct Node {
+    name: String,
+    phases: u8,
+    /// Roughly its voltage, in V.
+    volts: f64,
+    depth: usize,
+}
+
+/// A row of strings from anything that can be printed.
+macro_rules! row {
+    ($($field:expr),* $(,)?) => { vec![$($field.to_string()),*] };
+}
+
+fn phases_word(phases: u8) -> String {
+    "ABC".chars().enumerate().filter(|(k, _)| phases & 1 << k != 0).map(|(_, letter)| letter).collect()
+}
+
+fn fresh_name(random: &mut Random, taken: &[Node]) -> String {
+    const LETTERS: &[u8] = b"ABCDEFGHIJKLMNOPQRSTUVWXYZ0123456789";
+    loop {
+        let length = random.between(1, 8) as usize;
+        let name: String = (0..length).map(|_| *random.pick(LETTERS) as char).collect();
+        if taken.iter().all(|node| node.name != name) {
+            return name;
+        }
+    }
+}
+
+/// The fields of a source row at this voltage, with tol and sweeps.
+fn source_row(name: &str, cv: i64, tol: i64, sweeps: i64) -> Vec<String> {
+    let (half, side) = (-cv / 2, (cv as f64 * 0.866_025_403_784).round() as i64);
+    row![name, cv, 0, half, -side, half, side, tol, sweeps]
+}
+
+/// A feeder with nothing wrong, whose parameters settle as a rule. Rows come in the order of work or shuffled.
+pub fn sound(random: &mut Random, branches: usize, loads: usize, mix: Mix) -> Draft {
+    let cv = *random.pick(&[240_000, 719_956, 720_000, 1_443_376]);
+    let tol = *random.pick(&[0, 1, 1, 2, 5, 100, 1000]);
+    let name = fresh_name(random, &[]);
+    let mut draft = Draft { source: source_row(&name, cv, tol, random.between(20, 100)), ..Draft::default() };
+    let mut nodes = vec![Node { name, phases: 7, volts: cv as f64 / 100.0, depth: 0 }];
+
+    // The tree: a chain (reach 1), a bush (large reach), or a star.
+    let reach = *random.pick(&[1, 2, 4, 10, 1000, 1000]);
+    let star = random.once_in(8);
+    let lines_only = random.once_in(4);
+    for _ in 0..branches {
+        let back = random.below(reach).min(nodes.len() - 1);
+        let parent = &nodes[if star { 0 } else { nodes.len() - 1 - back }];
+        let (from, above, mut volts, depth) = (parent.name.clone(), parent.phases, parent.volts, parent.depth + 1);
+        let to = fresh_name(random, &nodes);
+        let mut phases = above;
+        if !random.once_in(3) {
+            // Mostly all phases go on; now and then fewer.
+            phases = match above & random.between(1, 7) as u8 {
+                0 => above,
+                some if random.once_in(3) => some,
+                _ => above,
+            };
+        }
+        let kind = match random.below(if lines_only { 1 } else { 10 }) {
+            7 => 'R',
+            8 if above == 7 => 'Y',
+            9 if above == 7 => 'D',
+            _ => 'L',
+        };
+        let mut p = [0i64; 12];
+        match kind {
+            'R' => {
+                let (low, high) = if volts > 12_000.0 {
+                    (-16, 0)
+                } else if volts < 200.0 {
+                    (0, 16)
+                } else {
+                    (-16, 16)
+                };
+                let mut most = -16;
+                for (k, tap) in p[..3].iter_mut().enumerate() {
+                    if phases & 1 << k != 0 {
+                        *tap = random.between(low, high);
+                        most = most.max(*tap);
+                    }
+                }
+                volts *= 160.0 / (160.0 - most as f64);
+            }
+            'Y' | 'D' => {
+                phases = 7;
+                let wanted = if volts > 8_000.0 {
+                    0.1 + 0.5 * random.share()
+                } else if volts < 400.0 {
+                    1.0 + 3.0 * random.share()
+                } else {
+                    0.4 + random.share()
+                };
+                let most = *random.pick(&[100, 20_000, 1_000_000]);
+                let n = random.between(1, most);
+                let gain = if kind == 'D' { 3f64.sqrt() } else { 1.0 };
+                p[0] = n;
+                p[1] = ((wanted * n as f64 / gain).round() as i64).clamp(1, 1_000_000);
+                volts *= gain * p[1] as f64 / n as f64;
+            }
+            _ => {}
+        }
+        let mut fields = row![from, to, phases_word(phases), kind];
+        fields.extend(p.iter().map(|p| p.to_string()));
+        draft.branches.push(fields);
+        nodes.push(Node { name: to, phases, volts, depth });
+    }
+
+    // What the feeder can carry: at most some hundred A at the lowest voltage, a few per cent of drop to the deepest node.
+    let lowest = nodes.iter().map(|node| node.volts).fold(f64::MAX, f64::min).max(1.0);
+    let deepest = nodes.iter().map(|node| node.depth).max().unwrap_or(0).max(1) as f64;
+    let carried = lowest * 600.0 * (0.01 + 0.99 * random.share());
+    for (row, node) in draft.branches.iter_mut().zip(&nodes[1..]) {
+        let most = (0.03 * node.volts * node.volts / (carried * deepest) * 1e6).clamp(1.0, 30_000_000.0);
+        let mut impedance = |part: f64| ((0.2 + 0.8 * random.share()) * part * most).round() as i64;
+        let has = |bits: u8| node.phases & bits == bits;
+        match row[3].as_str() {
+            "L" => {
+                for (k, owners) in [1u8, 3, 5, 2, 6, 4].into_iter().enumerate() {
+                    if has(owners) {
+                        let part = if owners.count_ones() == 1 { 1.0 } else { 0.3 };
+                        row[4 + 2 * k] = impedance(0.4 * part).to_string();
+                        row[5 + 2 * k] = impedance(part).to_string();
+                    }
+                }
+            }
+            "R" => {}
+            _ => {
+                for k in 0..3 {
+                    row[6 + 2 * k] = impedance(0.1).to_string();
+                    row[7 + 2 * k] = impedance(0.6).to_string();
+                }
+            }
+        }
+    }
+
+    for _ in 0..loads {
+        let node =
+            if nodes.len() == 1 || random.once_in(40) { &nodes[0] } else { &nodes[1 + random.below(nodes.len() - 1)] };
+        let phases: Vec<char> = phases_word(node.phases).chars().collect();
+        let phase = *random.pick(&phases);
+        let each = 3.0 * carried / loads as f64 * random.share();
+        let (mut p, mut q) = ((each * 0.9) as i64, (each * (0.6 * random.share() - 0.1)) as i64);
+        let kind = match mix {
+            Mix::Power => 'P',
+            Mix::Current => 'I',
+            Mix::Mixed => *random.pick(&['P', 'P', 'I', 'I', 'Z', 'C']),
+        };
+        if kind == 'C' {
+            (p, q) = (0, -(each * 0.3) as i64);
+        }
+        let kind = if kind == 'C' { 'Z' } else { kind };
+        let vn = ((node.volts * 100.0) as i64).clamp(1, LIMIT);
+        let (p, q) = (p.clamp(-3_000_000, 3_000_000), q.clamp(-3_000_000, 3_000_000));
+        draft.loads.push(row![node.name, phase, kind, vn, p, q]);
+    }
+    if random.once_in(2) {
+        random.shuffle(&mut draft.branches);
+        random.shuffle(&mut draft.loads);
+    }
+    draft
+}
+
+/// Sizes as a fuzzer wants them: mostly small, now and then full.
+pub fn some_sound(random: &mut Random) -> Draft {
+    let most = *random.pick(&[1, 3, 3, 6, 6, 12, 30, MAX_BRANCHES]);
+    let least = if random.once_in(20) { 0 } else { 1 };
+    let branches = random.between(least, most as i64) as usize;
+    let loads = random.below((branches * 3 / 2 + 3).min(MAX_LOADS + 1));
+    let mix = *random.pick(&[Mix::Power, Mix::Current, Mix::Mixed, Mix::Mixed]);
+    sound(random, branches, loads, mix)
+}
+
+/// A sound feeder pushed until it may not settle: heavy loads, large impedances, little voltage, few sweeps.
+pub fn hard(random: &mut Random) -> Draft {
+    let mut draft = some_sound(random);
+    for _ in 0..random.between(1, 3) {
+        match random.below(9) {
+            0 => draft.source[8] = random.between(1, 4).to_string(),
+            1 => draft.source[7] = "0".into(),
+            2 => {
+                let k = 1 + 2 * random.below(3);
+                draft.source[k] = "0".into();
+                draft.source[k + 1] = "0".into();
+            }
+            3 => {
+                for field in &mut draft.source[1..7] {
+                    let scaled = field.parse().unwrap_or(0i64) / random.between(2, 1000);
+                    *field = scaled.to_string();
+                }
+            }
+            4 => scale(random, &mut draft.branches, 4, 16, 100_000_000, "L"),
+            5 => scale(random, &mut draft.loads, 4, 6, 3_000_000, ""),
+            6 => {
+                if !draft.loads.is_empty() {
+                    let row = random.below(draft.loads.len());
+                    draft.loads[row][4] = random.between(-3_000_000, 3_000_000).to_string();
+                    draft.loads[row][5] = random.between(-3_000_000, 3_000_000).to_string();
+                }
+            }
+            7 => {
+                if !draft.loads.is_empty() {
+                    let row = random.below(draft.loads.len());
+                    draft.loads[row][3] = random.between(1, 100).to_string();
+                }
+            }
+            _ => {
+                for row in &mut draft.branches {
+                    if matches!(row[3].as_str(), "Y" | "D") && random.once_in(2) {
+                        row[4] = random.between(1, 1_000_000).to_string();
+                        row[5] = random.between(1, 1_000_000).to_string();
+                    }
+                }
+            }
+        }
+    }
+    draft
+}
+
+/// Scales the numbers in some columns of all rows of a kind, within their limit.
+fn scale(random: &mut Random, rows: &mut [Vec<String>], from: usize, to: usize, limit: i64, kind: &str) {
+    let factor = *random.pick(&[2, 3, 5, 10, 100, 10_000, -1, -3]);
+    for row in rows.iter_mut().filter(|row| kind.is_empty() || row[3] == kind) {
+        for field in &mut row[from..to] {
+            let scaled = field.parse::<i64>().unwrap_or(0).saturating_mul(factor);
+            *field = scaled.clamp(-limit, limit).to_string();
+        }
+    }
+}
+
+/// Fields that are no numbers, or numbers at the ends of what is one.
+const ODD_FIELDS: [&str; 19] = [
+    "",
+    "-",
+    "-0",
+    "00",
+    "01",
+    "-01",
+    "+1",
+    " 1",
+    "1 ",
+    "1\r",
+    "1.0",
+    "1e3",
+    "--1",
+    "999999999999999999",
+    "-999999999999999999",
+    "1000000000000000000",
+    "-1000000000000000000",
+    "A",
+    "0x1",
+];
+
+/// A draft with faults in its values, names and phases: layout mostly right, 11 to 24 mostly met.
+pub fn wrong(random: &mut Random) -> Draft {
+    let mut draft = some_sound(random);
+    for _ in 0..random.between(1, 3) {
+        let rows = draft.branches.len();
+        let branch = random.below(rows);
+        let other = random.below(rows);
+        match random.below(16) {
+            0 => {
+                let k = random.between(1, 8) as usize;
+                let value =
+                    *random.pick(&[-2_000_001i64, -2_000_000, -1, 0, 1, 100, 101, 1000, 1001, 2_000_000, 2_000_001]);
+                draft.source[k] = value.to_string();
+            }
+            1..=3 if rows > 0 => {
+                let k = random.between(4, 15) as usize;
+                let value = *random.pick(&[
+                    -100_000_001i64,
+                    -100_000_000,
+                    -17,
+                    -16,
+                    -1,
+                    0,
+                    1,
+                    16,
+                    17,
+                    1_000_000,
+                    1_000_001,
+                    100_000_000,
+                    100_000_001,
+                    999_999_999_999_999_999,
+                ]);
+                draft.branches[branch][k] = value.to_string();
+            }
+            4 if !draft.loads.is_empty() => {
+                let row = random.below(draft.loads.len());
+                let k = random.between(3, 5) as usize;
+                let value =
+                    *random.pick(&[-3_000_001i64, -3_000_000, -1, 0, 1, 2_000_000, 2_000_001, 3_000_000, 3_000_001]);
+                draft.loads[row][k] = value.to_string();
+            }
+            5 if rows > 0 => draft.branches[branch][0] = random.pick(&["NOBODY", "0", "Q", "ABC"]).to_string(),
+            6 if rows > 0 => draft.branches[branch][1] = draft.branches[other][1].clone(),
+            7 if rows > 0 => draft.branches[branch][1] = draft.source[0].clone(),
+            8 | 9 if rows > 0 => draft.branches[branch][0] = draft.branches[other][1].clone(),
+            10 if rows > 0 => {
+                draft.branches[branch][2] = random.pick(&["A", "B", "C", "AB", "AC", "BC", "ABC"]).to_string()
+            }
+            11 if rows > 0 => draft.branches[branch][3] = random.pick(&["L", "R", "Y", "D"]).to_string(),
+            12 | 13 if !draft.loads.is_empty() => {
+                let row = random.below(draft.loads.len());
+                match random.below(3) {
+                    0 => draft.loads[row][0] = "NOBODY".into(),
+                    1 => draft.loads[row][1] = random.pick(&["A", "B", "C"]).to_string(),
+                    _ => draft.loads[row][2] = random.pick(&["P", "I", "Z"]).to_string(),
+                }
+            }
+            14 if rows > 0 => {
+                let row = draft.branches[branch].clone();
+                draft.branches.insert(other, row);
+            }
+            15 if rows > 0 => {
+                draft.branches.remove(branch);
+            }
+            _ => {
+                if random.once_in(2) {
+                    draft.source[0] = random.pick(&["S", "A", "ABC", "00000000"]).to_string();
+                } else if let Some(row) = draft.branches.get_mut(branch) {
+                    let k = random.between(7, 15) as usize;
+                    row[k] = random.pick(&ODD_FIELDS).to_string();
+                }
+            }
+        }
+    }
+    draft
+}
+
+/// Damages a text: bytes, fields, lines, its ends.
+pub fn mangle(random: &mut Random, text: &[u8]) -> Vec<u8> {
+    let mut text = text.to_vec();
+    for _ in 0..*random.pick(&[1, 1, 1, 2, 3]) {
+        let at = random.below(text.len());
+        match random.below(14) {
+            0 if !text.is_empty() => text[at] ^= 1 << random.below(8),
+            1 if !text.is_empty() => text[at] = *random.pick(b"0123456789-,\n\r ABCDLRYPIZxyz\0\xb2\xff"),
+            2 => text.insert(at.min(text.len()), *random.pick(b"0123456789-,\n\r ABCXYZ")),
+            3 if !text.is_empty() => {
+                text.remove(at);
+            }
+            4 => text.truncate(at),
+            5 => {
+                let more =
+                    *random.pick(&[&b"\n"[..], b"\r\n", b"A", b",", b"\n\n", b"A,A,P,1,0,0", b"A,A,P,1,0,0\n", b"\0"]);
+                text.extend_from_slice(more);
+            }
+            6 => {
+                text = edit_lines(random, &text, |random, lines| {
+                    let row = random.below(lines.len());
+                    lines.remove(row);
+                })
+            }
+            7 => {
+                text = edit_lines(random, &text, |random, lines| {
+                    let row = random.below(lines.len());
+                    let line = lines[row].clone();
+                    let to = random.below(lines.len());
+                    lines.insert(to, line);
+                })
+            }
+            8 => {
+                text = edit_lines(random, &text, |random, lines| {
+                    let (a, b) = (random.below(lines.len()), random.below(lines.len()));
+                    lines.swap(a, b);
+                })
+            }
+            9 => {
+                text = edit_fields(random, &text, |random, fields| {
+                    let (a, b) = (random.below(fields.len()), random.below(fields.len()));
+                    fields.swap(a, b);
+                })
+            }
+            10 => {
+                text = edit_fields(random, &text, |random, fields| {
+                    let k = random.below(fields.len());
+                    fields[k] = random.pick(&ODD_FIELDS).as_bytes().to_vec();
+                })
+            }
+            11 => {
+                text = edit_fields(random, &text, |random, fields| {
+                    let k = random.below(fields.len());
+                    if random.once_in(2) {
+                        fields.remove(k);
+                    } else {
+                        fields.insert(k, b"0".to_vec());
+                    }
+                })
+            }
+            12 => {
+                text = edit_fields(random, &text, |random, fields| {
+                    // Names of 8 and 9 bytes, and numbers of 18 and 19 digits.
+                    let k = random.below(fields.len());
+                    let (fill, most) = (*random.pick(b"A1"), *random.pick(&[8, 9, 18, 19]));
+                    fields[k] = vec![fill; most];
+                })
+            }
+            _ => {
+                if random.once_in(2) {
+                    text = text.iter().flat_map(|b| if *b == b'\n' { vec![b'\r', b'\n'] } else { vec![*b] }).collect();
+                } else {
+                    text.pop();
+                }
+            }
+        }
+    }
+    text
+}
+
+fn edit_lines(random: &mut Random, text: &[u8], edit: impl Fn(&mut Random, &mut Vec<Vec<u8>>)) -> Vec<u8> {
+    let mut lines: Vec<Vec<u8>> = text.split(|b| *b == b'\n').map(<[u8]>::to_vec).collect();
+    edit(random, &mut lines);
+    lines.join(&b'\n')
+}
+
+fn edit_fields(random: &mut Random, text: &[u8], edit: impl Fn(&mut Random, &mut Vec<Vec<u8>>)) -> Vec<u8> {
+    edit_lines(random, text, |random, lines| {
+        let row = random.below(lines.len());
+        let mut fields: Vec<Vec<u8>> = lines[row].split(|b| *b == b',').map(<[u8]>::to_vec).collect();
+        edit(random, &mut fields);
+        lines[row] = fields.join(&b',');
+    })
+}
+
+/// A feeder at a limit: exactly at it, or one past it.
+pub fn boundary(random: &mut Random) -> Vec<u8> {
+    match random.below(8) {
+        0 => {
+            // 199 to 201 branches, 299 to 301 loads.
+            let branches = random.between(199, 201) as usize;
+            let loads = random.between(299, 301) as usize;
+            sound(random, branches, loads, Mix::Mixed).text()
+        }
+        1 => sized(random),
+        2 | 3 => transformers(random).text(),
+        4 => {
+            // One line or load at the ends of its limits.
+            let mut draft = Draft { source: source_row("S", 720_000, 1, 100), ..Draft::default() };
+            for field in &mut draft.source[1..7] {
+                *field = random.pick(&["2000000", "-2000000", "0", "1", "-1", "720000"]).to_string();
+            }
+            let mut ohms = || random.pick(&["100000000", "-100000000", "0", "1", "-1", "1000000"]).to_string();
+            let mut row = row!["S", "N", "ABC", "L"];
+            row.extend((0..12).map(|_| ohms()));
+            draft.branches.push(row);
+            for phase in ["A", "B", "C"] {
+                let mut va = || random.pick(&["3000000", "-3000000", "0", "1", "-1", "72000"]).to_string();
+                let (p, q) = (va(), va());
+                let vn = random.pick(&["1", "2", "720000", "2000000"]).to_string();
+                draft.loads.push(row![random.pick(&["S", "N", "N"]), phase, random.pick(&["P", "I", "Z"]), vn, p, q]);
+            }
+            draft.text()
+        }
+        5 => {
+            // One load, or two, whose current I or J is near the limit; the device may raise J above I.
+            let vn = random.between(6_000, 600_000);
+            let at_limit = 2_000_000.0 * vn as f64 * vn as f64 / 720_000.0 / 100_000.0;
+            let part = *random.pick(&[1.0, 1.0, 0.5, 0.9]);
+            let p = ((at_limit * part) as i64 + random.between(-2, 2)).clamp(-3_000_000, 3_000_000);
+            let mut draft = Draft { source: source_row("S", 720_000, 1, 10), ..Draft::default() };
+            draft.branches.push(match random.below(4) {
+                0 => row!["S", "N", "A", "L", 0, 0, 0, 0, 0, 0, 0, 0, 0, 0, 0, 0],
+                1 => row!["S", "N", "A", "R", random.between(-16, 16), 0, 0, 0, 0, 0, 0, 0, 0, 0, 0, 0],
+                2 => row!["S", "N", "ABC", "Y", 100, random.between(99, 101), 0, 0, 0, 0, 0, 0, 0, 0, 0, 0],
+                _ => row!["S", "N", "ABC", "D", 173, random.between(99, 101), 0, 0, 0, 0, 0, 0, 0, 0, 0, 0],
+            });
+            for _ in 0..random.between(1, 2) {
+                draft.loads.push(row!["N", "A", "Z", vn, p, 0]);
+            }
+            draft.text()
+        }
+        6 => {
+            // Regulators in a chain up to the voltage limit.
+            let cv = random.between(1_000_000, 2_000_000);
+            let mut draft = Draft { source: source_row("S", cv, 0, 3), ..Draft::default() };
+            let mut from = "S".to_string();
+            for k in 0..random.between(1, 12) {
+                let to = format!("N{k}");
+                let tap = random.between(-16, 16);
+                draft.branches.push(row![from, to, "A", "R", tap, 0, 0, 0, 0, 0, 0, 0, 0, 0, 0, 0]);
+                from = to;
+            }
+            draft.loads.push(row![from, "A", "I", cv, random.between(0, 100_000), 0]);
+            draft.text()
+        }
+        _ => {
+            // tol and sweeps at their ends.
+            let mut draft = some_sound(random);
+            draft.source[7] = random.pick(&["0", "1000", "1001", "-1"]).to_string();
+            draft.source[8] = random.pick(&["0", "1", "2", "100", "101"]).to_string();
+            draft.text()
+        }
+    }
+}
+
+/// A file of 65,535 to 65,537 bytes: well laid out as a rule, with too many rows, or filled up with anything.
+fn sized(random: &mut Random) -> Vec<u8> {
+    let length = MAX_FILE - 1 + random.below(3);
+    let mut text = some_sound(random).text();
+    if random.once_in(4) {
+        text.resize(length, *random.pick(b"A0\n,"));
+        return text;
+    }
+    let row = b"A,A,P,1,0,0\n";
+    while text.len() + 2 * row.len() <= length {
+        text.extend_from_slice(row);
+    }
+    // The last row is as long as it has to be: 12 to 23 bytes, filled up in its name or its numbers.
+    let more = length - text.len() - row.len();
+    let (name, digits) = (1 + more.min(7), 1 + more.saturating_sub(7));
+    let last = format!("{},A,P,{},0,0\n", "A".repeat(name), "1".repeat(digits));
+    text.extend_from_slice(last.as_bytes());
+    text
+}
+
+/// Chains of transformers 1:1,000,000 and back, at little voltage.
+pub fn transformers(random: &mut Random) -> Draft {
+    let mut draft = Draft {
+        source: row!["S", 0, 0, 0, 0, 0, 0, random.pick(&[0, 1, 1000]), random.between(1, 5)],
+        ..Draft::default()
+    };
+    for field in &mut draft.source[1..7] {
+        *field = random.pick(&["0", "0", "1", "-1", "2", "-2", "3", "2000000", "-2000000"]).to_string();
+    }
+    let mut from = "S".to_string();
+    for k in 0..random.between(1, 6) {
+        let to = format!("T{k}");
+        let ends = [1, 1_000_000];
+        let (n, m) = (*random.pick(&ends), *random.pick(&ends));
+        let z = *random.pick(&[0, 1, 100_000_000]);
+        draft.branches.push(row![from, to, "ABC", random.pick(&["Y", "D"]), n, m, z, 0, z, z, 0, -z, 0, 0, 0, 0]);
+        if !random.once_in(4) {
+            from = to;
+        }
+    }
+    for _ in 0..random.below(3) {
+        let kind = random.pick(&["P", "I", "Z", "Z"]);
+        let vn = random.pick(&[1, 1_000_000, 2_000_000]);
+        draft.loads.push(row![
+            from,
+            random.pick(&["A", "B", "C"]),
+            kind,
+            vn,
+            random.between(-20, 20),
+            random.between(-2, 2)
+        ]);
+    }
+    draft
+}
+
+/// Any feeder file.
+pub fn any_feeder(random: &mut Random) -> Vec<u8> {
+    match random.below(10) {
+        0..=2 => some_sound(random).text(),
+        3 | 4 => hard(random).text(),
+        5 | 6 => wrong(random).text(),
+        7 => boundary(random),
+        8 => {
+            let text = some_sound(random).text();
+            mangle(random, &text)
+        }
+        _ => {
+            let text = boundary(random);
+            if text.len() < 5_000 {
+                mangle(random, &text)
+            } else {
+                text
+            }
+        }
+    }
+}
+
+/// A report for the feeder: its own, an edited one, or one worked from voltages of our choosing, so that names and
+/// currents agree and only voltages or totals may not.
+pub fn any_report(random: &mut Random, feeder: &[u8]) -> Vec<u8> {
+    let Ok(read) = read_feeder(feeder) else {
+        // No report belongs to it; anything will do.
+        return match random.below(4) {
+            0 => vec![b'x'; MAX_FILE + random.below(2)],
+            1 => Vec::new(),
+            _ => feeder.to_vec(),
+        };
+    };
+    let own = forge(random, &read, 0);
+    match random.below(12) {
+        0 | 1 => own,
+        2 | 3 => mangle(random, &own),
+        4 | 5 => edit_digit(random, &own),
+        6 => match random.below(3) {
+            0 => edit_names(random, &own),
+            1 => edit_sweeps(random, &own),
+            _ => {
+                let mut long = own;
+                long.resize(MAX_FILE - 1 + random.below(3), *random.pick(b"0\nA"));
+                long
+            }
+        },
+        _ => {
+            let moves = random.between(1, 3) as usize;
+            forge(random, &read, moves)
+        }
+    }
+}
+
+/// A report worked from the study's voltages (or any, where it does not settle), some of them moved.
+pub fn forge(random: &mut Random, feeder: &Feeder, moves: usize) -> Vec<u8> {
+    let nodes = feeder.branches.len() + 1;
+    let (mut voltages, sweeps) = match settle(feeder) {
+        Ok(settled) => (settled.voltages, i64::from(settled.sweeps)),
+        Err(_) => (downward_clamped(feeder), 1),
+    };
+    for _ in 0..moves {
+        let node = random.below(nodes);
+        if node == 0 && !random.once_in(10) {
+            continue;
+        }
+        let tol = feeder.tol;
+        let by = *random.pick(&[tol, -tol, tol + 1, -tol - 1, 1, -1, 0, 5, 4_000_000]);
+        let phase = random.below(3);
+        if feeder.phases(node) & 1 << phase == 0 && !random.once_in(8) {
+            continue;
+        }
+        let v = &mut voltages[node][phase];
+        match random.below(12) {
+            0 => *v = Pair::default(),
+            1..=6 => v.re = (v.re + by).clamp(-LIMIT, LIMIT),
+            _ => v.im = (v.im + by).clamp(-LIMIT, LIMIT),
+        }
+    }
+    let mut currents = Currents::of(feeder);
+    if currents.work(feeder, &voltages).is_err() {
+        // The check will meet 30 to 32 before it compares currents.
+        currents = Currents::of(feeder);
+    }
+    let mut powers: Powers = currents.powers(feeder, &voltages);
+    if moves > 0 && random.once_in(6) {
+        let total = match random.below(4) {
+            0 if !powers.losses.is_empty() => {
+                let row = random.below(powers.losses.len());
+                &mut powers.losses[row]
+            }
+            1 => &mut powers.drawn,
+            2 => &mut powers.lost,
+            _ => &mut powers.source,
+        };
+        *if random.once_in(2) { &mut total.re } else { &mut total.im } += *random.pick(&[1, -1]);
+    }
+    let sweeps = if moves > 0 { random.between(1, feeder.limit) } else { sweeps };
+    write_rows(feeder, &voltages, &currents.nodes[1..], &powers, sweeps)
+}
+
+/// V0, each voltage held within the limit.
+fn downward_clamped(feeder: &Feeder) -> Vec<Phases> {
+    let mut voltages = vec![feeder.source_v; feeder.branches.len() + 1];
+    for &row in &feeder.order {
+        let branch = &feeder.branches[row];
+        let v = crate::equations::voltage(branch, &voltages[branch.parent], &NONE);
+        voltages[row + 1] = v.map(|v| Pair { re: v.re.clamp(-LIMIT, LIMIT), im: v.im.clamp(-LIMIT, LIMIT) });
+    }
+    voltages
+}
+
+/// Changes one digit.
+fn edit_digit(random: &mut Random, text: &[u8]) -> Vec<u8> {
+    let mut text = text.to_vec();
+    let digits: Vec<usize> = (0..text.len()).filter(|at| text[*at].is_ascii_digit()).collect();
+    if !digits.is_empty() {
+        text[*random.pick(&digits)] = *random.pick(b"0123456789");
+    }
+    text
+}
+
+/// Changes a name, or exchanges those of two rows.
+fn edit_names(random: &mut Random, text: &[u8]) -> Vec<u8> {
+    edit_lines(random, text, |random, lines| {
+        let (a, b) = (random.below(lines.len()), random.below(lines.len()));
+        let name = |line: &[u8]| line.split(|b| *b == b',').next().unwrap_or_default().to_vec();
+        let (of_a, of_b) = (name(&lines[a]), name(&lines[b]));
+        let rest_a = lines[a][of_a.len()..].to_vec();
+        let new =
+            if random.once_in(2) { of_b } else { random.pick(&["X", "N1", "", "a", "ABCDEFGHI"]).as_bytes().to_vec() };
+        lines[a] = [new, rest_a].concat();
+    })
+}
+
+/// Changes the number of sweeps.
+fn edit_sweeps(random: &mut Random, text: &[u8]) -> Vec<u8> {
+    edit_lines(random, text, |random, lines| {
+        let Some(row) = lines.len().checked_sub(2) else { return };
+        let mut fields: Vec<Vec<u8>> = lines[row].split(|b| *b == b',').map(<[u8]>::to_vec).collect();
+        fields[0] = random.pick(&["0", "1", "2", "5", "20", "100", "101", "-1", "01"]).as_bytes().to_vec();
+        lines[row] = fields.join(&b',');
+    })
+}
+
+#[cfg(test)]
+mod tests {
+    use super::*;
+    use crate::{check, study, Answer};
+
+    #[test]
+    fn sound_ones_are_sound_and_mostly_settle() {
+        let mut random = Random::new(1);
+        let mut settled = 0;
+        for _ in 0..300 {
+            let text = some_sound(&mut random).text();
+            assert!(read_feeder(&text).is_ok());
+            let mut out = vec![0; MAX_FILE];
+            if let Answer::Report { length, .. } = study(&text, &mut out) {
+                settled += 1;
+                assert_eq!(check(&text, &out[..length]), Answer::Pass);
+            }
+        }
+        assert!(settled > 200, "{settled} of 300");
+    }
+
+    #[test]
+    fn every_number_is_met() {
+        let mut studied = std::collections::BTreeSet::new();
+        let mut checked = std::collections::BTreeSet::new();
+        let mut out = vec![0; MAX_FILE];
+        for seed in 0..2000 {
+            let mut random = Random::new(seed);
+            let feeder = any_feeder(&mut random);
+            let report = any_report(&mut random, &feeder);
+            let room = if random.once_in(20) { 100 } else { MAX_FILE };
+            // Reports are shorter than 2^32.
+            studied.insert(study(&feeder, &mut out[..room]).word() >> 32);
+            checked.insert(check(&feeder, &report).word() >> 32);
+        }
+        let layout = [9, 10, 11, 20, 21, 22, 23, 24];
+        let in_study: Vec<u64> = [&[0], &layout[..], &[30, 31, 32, 33, 34, 40]].concat();
+        let in_check: Vec<u64> = [&[0], &layout[..], &[30, 31, 32, 50, 51, 52, 53, 54, 55]].concat();
+        assert_eq!(studied.into_iter().collect::<Vec<_>>(), in_study);
+        assert_eq!(checked.into_iter().collect::<Vec<_>>(), in_check);
+    }
+
+    #[test]
+    fn sizes_are_exact() {
+        let mut random = Random::new(2);
+        for _ in 0..30 {
+            let text = sized(&mut random);
+            assert!((MAX_FILE - 1..=MAX_FILE + 1).contains(&text.len()));
+        }
+    }
+
+    #[test]
+    fn the_same_seed_makes_the_same_files() {
+        let make = |seed| {
+            let mut random = Random::new(seed);
+            let feeder = any_feeder(&mut random);
+            let report = any_report(&mut random, &feeder);
+            (feeder, report)
+        };
+        for seed in 0..50 {
+            assert_eq!(make(seed), make(seed));
+        }
+        assert_ne!(make(1), make(2));
+    }
+}
