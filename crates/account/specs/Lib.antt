@@ -3,3 +3,4 @@ pub mod Sums
 pub mod Powers
 pub mod RowBounds
 pub mod AccountLaw
+pub mod Clause

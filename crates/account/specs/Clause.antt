@@ -1,0 +1,68 @@
+-- The account from the other side, so that none of it can be weakened: what it says of the feeder and the report that two texts are read as, and the table of demand 3 worked by hand. Assumes nothing.
+use mathlib.Core.Bool.{false, true}
+use mathlib.Core.List.{List, [], _∷_}
+use mathlib.Core.Path.{_∙_, _≡_, ap, refl, subst, sym}
+use Prim.Native.Nat.{_*_, _≤_, ℕ}
+use lib.IntN.{natAbs, negsuc, pos, ℤ}
+use Rattle.account.specs.Account.{PowerAccount, allowance, branchAllowance, difference, loadAllowance, over}
+use Rattle.answers.specs.AnswerLaws.{same-good}
+use Rattle.answers.specs.Answers.{good}
+use Rattle.equations.specs.Equations.{currentAt, loadCurrent, mix, rated, voltageOn, weight, zero3}
+use Rattle.feeder.specs.Feeder.{Feeder, reading}
+use Rattle.feeder.specs.declared.Connection.the-variants.{Wye}
+use Rattle.feeder.specs.declared.Device.{Device}
+use Rattle.feeder.specs.declared.Device.the-variants.{Line, Regulator, Transformer}
+use Rattle.feeder.specs.declared.Load.{Load}
+use Rattle.feeder.specs.declared.LoadKind.the-variants.{Power}
+use Rattle.feeder.specs.declared.Phase.the-variants.{A}
+use Rattle.feeder.specs.declared.Phases.{Phases}
+use Rattle.feeder.specs.declared.Three.{Three}
+use Rattle.integers.specs.Lists.{csum, nsum}
+use Rattle.integers.specs.Pairs.{0c, _+c_, _·*_, abs, rndPair, scaled, square}
+use Rattle.integers.specs.Rounding.{near, rnd}
+use Rattle.integers.specs.declared.Pair.{Pair}
+use Rattle.report.specs.Report.{Reported, reportOf}
+
+-- ---- the account is one of the very feeder and report that the texts are read as: real and reactive, twice the difference is at most the allowance
+pub of-read : (s t : List ℕ) (f : Feeder) (r : Reported) → reading s ≡ good f → reportOf f t ≡ good r → PowerAccount s t
+    → (2 * natAbs (difference f r .re) ≤ allowance f r) × (2 * natAbs (difference f r .im) ≤ allowance f r)
+of-read s t f r h k a =
+    let same-feeder : a .feeder ≡ f = same-good _ _ (sym (a .feeder-read) ∙ h) in
+    let same-report : a .report ≡ r = same-good _ _ (sym (a .report-read) ∙ (ap (λ g. reportOf g t) same-feeder ∙ k)) in (
+      subst (λ g. 2 * natAbs (difference g r .re) ≤ allowance g r) same-feeder (subst (λ x. 2 * natAbs (difference (a .feeder) x .re) ≤ allowance (a .feeder) x) same-report (a .real)),
+      subst (λ g. 2 * natAbs (difference g r .im) ≤ allowance g r) same-feeder (subst (λ x. 2 * natAbs (difference (a .feeder) x .im) ≤ allowance (a .feeder) x) same-report (a .reactive)),
+    )
+
+-- ---- the table of demand 3 by hand: a row on phases A and B, at V = 3 + 4j and 5j, with I = 1 - j and 2
+abbrev pair : ℤ → ℤ → Pair
+pair x y = record { re = x; im = y }
+
+abbrev on-a-and-b : Phases
+on-a-and-b = record { a = true; b = true; c = false }
+
+abbrev voltage : Three
+voltage = record { a = pair (pos 3) (pos 4); b = pair (pos 0) (pos 5); c = pair (pos 9) (pos 9) }
+
+abbrev current : Three
+current = record { a = pair (pos 1) (negsuc 0); b = pair (pos 2) (pos 0); c = pair (pos 9) (pos 9) }
+
+-- 1, and |I| on each phase: 1 + 2 + 2
+by-hand-line : branchAllowance 10 (Line (record { aa = 0c; ab = 0c; ac = 0c; bb = 0c; bc = 0c; cc = 0c })) on-a-and-b voltage current ≡ 5
+unfolding branchAllowance over nsum abs
+by-hand-line = refl
+
+-- |V| + 2·tol + |I| on each phase: 7 + 20 + 2 and 5 + 20 + 2
+by-hand-regulator : branchAllowance 10 (Regulator (record { a = pos 0; b = pos 0; c = pos 0 })) on-a-and-b voltage current ≡ 56
+unfolding branchAllowance over nsum abs
+by-hand-regulator = refl
+
+-- 1, and |V| + 2·tol + 2·|I| on each phase: 1, 7 + 20 + 4 and 5 + 20 + 4
+by-hand-transformer : branchAllowance 10 (Transformer (record { connection = Wye; n = pos 1; m = pos 1; z = zero3 })) on-a-and-b voltage current ≡ 61
+unfolding branchAllowance over nsum abs
+by-hand-transformer = refl
+
+-- 2·tol·|I| + |V| + 1: 01's load takes 10014 mA at 7190.00 V, with tol 1
+by-hand-load : loadAllowance 1 (zero3 ∷ record { a = pair (pos 719000) (pos 0); b = 0c; c = 0c } ∷ [])
+    (record { node = 1; phase = A; kind = Power; vn = pos 720000; s = pair (pos 72000) (pos 0) }) ≡ 739029
+unfolding loadAllowance abs loadCurrent currentAt voltageOn mix rated weight rndPair rnd near scaled square _·*_ _+c_ csum
+by-hand-load = refl
