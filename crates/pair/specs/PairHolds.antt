@@ -31,7 +31,8 @@ use Rattle.pair.specs.Pair.{PairLaw}
 use Rattle.pair.specs.SolutionSizes.{solution-writable}
 use Rattle.report.specs.Report.{Reported, reportText, reportedVoltages}
 use Rattle.report.specs.RoundTrip.{Writable, branch-count, branch-row, node-row, report-read, report-short, reportRows, reported-current, reported-loss, reported-totals, reported-voltages, rowOfBranch, rowOfNode}
-use Rattle.report_check.specs.Check.{checkOf, nameAtNode, nameDiffers, noRow}
+use Rattle.compare.specs.Differences.{nameAtNode, nameDiffers, noRow}
+use Rattle.report_check.specs.Check.{checkOf}
 use Rattle.report_check.specs.Passed.{Passed, found-passes}
 use Rattle.report_check.specs.Tests.{TotalsSame, meets52, meets53, meets54, meets55}
 use Rattle.report_check.specs.declared.Verdict.the-variants.{Pass}

@@ -18,7 +18,8 @@ use Rattle.reading.specs.Reading.{Arranged, ReadAs}
 use Rattle.reading.specs.declared.ReadAnswer.the-variants.{Good, Refused}
 use Rattle.reading.specs.declared.Reading.{Reading}
 use Rattle.report.specs.Report.{Reported, reportOf, reportedVoltages}
-use Rattle.report_check.specs.Check.{checkOf, checked, compared, currentDiffers, nameDiffers, sourceDiffers, totalDiffers, verdictOf, voltageOff}
+use Rattle.compare.specs.Differences.{currentDiffers, nameDiffers, sourceDiffers, totalDiffers}
+use Rattle.report_check.specs.Check.{checkOf, checked, compared, verdictOf, voltageOff}
 use Rattle.report_check.specs.Demand.{demand3}
 use Rattle.report_check.specs.declared.Verdict.{Verdict}
 use Rattle.report_check.specs.declared.Verdict.the-variants.{Fail, Pass}

@@ -22,7 +22,8 @@ use Rattle.passes.specs.declared.Losses.{Losses}
 use Rattle.radial.specs.Radial.{parentIn}
 use Rattle.reading.specs.declared.Reading.{Reading}
 use Rattle.report.specs.Report.{Reported, reportedVoltages}
-use Rattle.report_check.specs.Check.{belowOff, off, sourceDiffers, voltageOff}
+use Rattle.compare.specs.Differences.{sourceDiffers}
+use Rattle.report_check.specs.Check.{belowOff, off, voltageOff}
 use Rattle.report_check.specs.CheckStages.{FeederRead, workedAt}
 use Rattle.report_check.specs.Tests.{same3-true}
 use Rattle.report_reader.specs.Read.{ReportHeld}

@@ -2,8 +2,5 @@ pub mod Check
 pub mod Passed
 pub mod Tests
 pub mod Demand
-pub mod Compare
-pub mod Scans
-pub mod Tied
 pub mod CheckStages
 pub mod InHand

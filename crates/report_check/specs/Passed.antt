@@ -11,7 +11,8 @@ use Rattle.answers.specs.declared.Refusal.the-variants.{TooLong}
 use Rattle.equations.specs.Equations.{currentBeyond, currents, loadBeyond, voltages, zeroVoltage}
 use Rattle.feeder.specs.Feeder.{Feeder, reading, tooLong}
 use Rattle.report.specs.Report.{Reported, reportOf, reportedVoltages}
-use Rattle.report_check.specs.Check.{checkOf, checked, compared, currentDiffers, nameDiffers, sourceDiffers, totalDiffers, verdictOf, voltageOff}
+use Rattle.compare.specs.Differences.{currentDiffers, nameDiffers, sourceDiffers, totalDiffers}
+use Rattle.report_check.specs.Check.{checkOf, checked, compared, verdictOf, voltageOff}
 use Rattle.report_check.specs.declared.Verdict.the-variants.{Pass}
 
 -- the tests that a report has met

@@ -22,7 +22,8 @@ use Rattle.integers.specs.PairLaws.{close-true, same-true, true-close, true-sam
 use Rattle.integers.specs.Pairs.{0c, close, same}
 use Rattle.integers.specs.declared.Pair.{Pair}
 use Rattle.report.specs.Report.{Reported, reportedCurrents, reportedDrawn, reportedLosses, reportedLost, reportedSource, reportedVoltages}
-use Rattle.report_check.specs.Check.{belowOff, currentDiffers, off, same3, sourceDiffers, totalDiffers, voltageOff}
+use Rattle.compare.specs.Differences.{currentDiffers, same3, sourceDiffers, totalDiffers}
+use Rattle.report_check.specs.Check.{belowOff, off, voltageOff}
 use Rattle.report_check.specs.Passed.{Passed}
 
 -- equal on each phase

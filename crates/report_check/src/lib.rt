@@ -8,7 +8,6 @@ use reading::ReadAnswer;
 use reading::read_feeder;
 use report_reader::read_report;
 
-pub mod compare;
 pub mod stages;
 
 pub enum Verdict {

@@ -15,7 +15,8 @@ use Rattle.equations.specs.Equations.{each, plus3, minus3, sum3, masked, mix, v
 use Rattle.report.specs.Report.{nameText, joined, nodeLine, branchLine, totalsLine, nodesText, branchesText, totalsText, reportText, rowsJust, tableOf, lastRow, reportOf, reportedVoltages, reportedCurrents, reportedLosses}
 use Rattle.ladder.specs.Ladder.{settled, sweep, solution}
 use Rattle.ladder.specs.Study.{report, fitted, studyOf, bufferOf}
-use Rattle.report_check.specs.Check.{nameDiffers, sourceDiffers, currentDiffers, off, belowOff, voltageOff, totalDiffers, compared, checked, checkOf}
+use Rattle.compare.specs.Differences.{nameDiffers, sourceDiffers, currentDiffers, totalDiffers}
+use Rattle.report_check.specs.Check.{off, belowOff, voltageOff, compared, checked, checkOf}
 use Rattle.account.specs.Account.{ratingOf, rating, exactLoss, accounted, loadAllowance, over, branchAllowance, allowance, difference}
 
 -- says nothing by itself

@@ -5,7 +5,8 @@ use Rattle.equations.specs.Equations.{voltages}
 use Rattle.feeder.specs.Feeder.{Feeder}
 use Rattle.passes.specs.Arrays.{held-in}
 use Rattle.report.specs.Report.{Reported}
-use Rattle.report_check.specs.Check.{currentDiffers, voltageOff}
+use Rattle.compare.specs.Differences.{currentDiffers}
+use Rattle.report_check.specs.Check.{voltageOff}
 use Rattle.report_check.specs.CheckStages.{fails-at, from53, from54, from55, goes-on, workedAt}
 use Rattle.report_check.specs.InHand.{InHand, off-held}
 use Rattle.sweeps.specs.SweepsLaws.{ready}

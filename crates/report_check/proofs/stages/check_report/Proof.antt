@@ -4,7 +4,8 @@ use Rattle.answers.specs.declared.Refusal.the-variants.{NameDiffers, SourceDiff
 use Rattle.feeder.specs.Feeder.{Feeder, rowCount}
 use Rattle.feeder.specs.Network.{Held}
 use Rattle.report.specs.Report.{Reported}
-use Rattle.report_check.specs.Check.{nameDiffers, sourceDiffers, verdictOf}
+use Rattle.compare.specs.Differences.{nameDiffers, sourceDiffers}
+use Rattle.report_check.specs.Check.{verdictOf}
 use Rattle.report_check.specs.CheckStages.{compared-is, fails-at, from30, from52, goes-on}
 use Rattle.report_check.specs.InHand.{comparable, parents-in}
 use Rattle.report_reader.specs.Read.{ReportHeld}

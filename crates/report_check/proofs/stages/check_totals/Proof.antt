@@ -6,7 +6,7 @@ use Rattle.equations.specs.Sizes.{within3-more}
 use Rattle.feeder.specs.Feeder.{Feeder}
 use Rattle.passes.specs.Arrays.{held-in}
 use Rattle.report.specs.Report.{Reported, reportedVoltages}
-use Rattle.report_check.specs.Check.{totalDiffers}
+use Rattle.compare.specs.Differences.{totalDiffers}
 use Rattle.report_check.specs.CheckStages.{fails-if, from55, passes, workedAt}
 use Rattle.report_check.specs.InHand.{InHand, losses-held, lost-held, sent-held}
 use Rattle.sweeps.specs.SweepsLaws.{ready, source-fits}

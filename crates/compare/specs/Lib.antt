@@ -1,0 +1,4 @@
+pub mod Differences
+pub mod Compare
+pub mod Scans
+pub mod Tied

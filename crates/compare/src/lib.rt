@@ -1,0 +1,252 @@
+// The tests of a report against its feeder that work no voltage, over their arrays: 51 names, 52 source voltages and absent phases,
+// 53 currents, 55 losses and totals. specs/Differences.antt has each test, specs/Compare.antt the same over arrays.
+ghost use mathlib.Core.Path.{_≡_};
+ghost use mathlib.Core.Bool.{_&&_, cond, true};
+ghost use mathlib.Core.List.{List, _∷_, map};
+ghost use Prim.Native.Nat.{ℕ, _+_, _<_, _≤_};
+ghost use lib.ListN.{getD};
+ghost use Rattle.integers.specs.Lists.{all, count};
+ghost use Rattle.integers.specs.Pairs.{0c, same};
+ghost use Rattle.feeder.specs.Feeder.{Feeder, rowCount, rowsOf};
+ghost use Rattle.feeder.specs.Network.{Held, kept};
+ghost use Rattle.feeder.specs.declared.Network.{Network};
+ghost use Rattle.feeder.specs.declared.Three.{Three};
+ghost use Rattle.equations.specs.Equations.{drawnPower, lossOf, lostPower, sourcePower, zero3};
+ghost use Rattle.radial.specs.Radial.{parentIn};
+ghost use Rattle.report.specs.Report.{Reported};
+ghost use Rattle.report_reader.specs.Read.{ReportHeld, pairFrom};
+ghost use Rattle.report_reader.specs.declared.ReportRead.{ReportRead};
+ghost use Rattle.compare.specs.Differences.{currentDiffers, nameDiffers, same3, sourceDiffers, totalDiffers};
+ghost use Rattle.compare.specs.Compare.{absentDiffers, absentZero, lossesSame, namesDiffer, nodeNameDiffers, nodeScan, rowScan, threeDiffers};
+use answers::Found;
+use feeder::Branch;
+use feeder::Phases;
+use feeder::Three;
+use integers::Pair;
+
+// ---- equal pairs
+fn same_whole(a: i64, b: i64) -> bool
+    ensures yes { λ r. ⌜ (r ≡ true → a ≡ b) ⌝ }
+    ensures no { λ r. ⌜ (a ≡ b → r ≡ true) ⌝ }
+{
+    a == b
+}
+
+fn same_pair(x: Pair, y: Pair) -> bool
+    ensures { λ r. ⌜ r ≡ same x y ⌝ }
+{
+    let p = same_whole(x.re, y.re);
+    let q = same_whole(x.im, y.im);
+    p && q
+}
+
+fn all_of(a: bool, b: bool, c: bool) -> bool
+    ensures { λ r. ⌜ r ≡ (a && (b && c)) ⌝ }
+{
+    a && (b && c)
+}
+
+fn same_three(x: Three, y: Three) -> bool
+    ensures { λ r. ⌜ r ≡ same3 x y ⌝ }
+{
+    let a = same_pair(x.a, y.a);
+    let b = same_pair(x.b, y.b);
+    let c = same_pair(x.c, y.c);
+    all_of(a, b, c)
+}
+
+// ---- 51
+// The first node row with another name than the feeder's.
+fn first_node_name(nodes: [u64; 201], rows: usize, names: [u64; 201]) -> Found
+    requires { ⌜ rows ≤ 200 ⌝ }
+    ensures { λ r. ⌜ r ≡ nodeScan (nodeNameDiffers nodes names) rows ⌝ }
+{
+    let mut k = 0;
+    while k <= rows {
+        if names[k] != nodes[k] {
+            return Found::At(k + 2);
+        }
+        k += 1;
+    }
+    Found::Nothing
+}
+
+// The first branch row with another from-name or to-name than the feeder's.
+fn first_branch_name(
+    nodes: [u64; 201],
+    branches: [Branch; 201],
+    rows: usize,
+    froms: [u64; 201],
+    tos: [u64; 201],
+) -> Found
+    requires { ⌜ rows ≤ 200 ⌝ }
+    requires { ⌜ ((k : ℕ) → k < rows + 1 → parentIn branches k < 201) ⌝ }
+    ensures { λ r. ⌜ r ≡ rowScan (namesDiffer nodes branches froms tos) rows ⌝ }
+{
+    let mut k = 1;
+    while k <= rows {
+        let b = branches[k];
+        let from = b.from;
+        if froms[k] != nodes[from] {
+            return Found::At(rows + 4 + k);
+        }
+        if tos[k] != nodes[k] {
+            return Found::At(rows + 4 + k);
+        }
+        k += 1;
+    }
+    Found::Nothing
+}
+
+// 51: "names and row order are the feeder's".
+pub fn first_name_differs(
+    nodes: [u64; 201],
+    branches: [Branch; 201],
+    rows: usize,
+    names: [u64; 201],
+    froms: [u64; 201],
+    tos: [u64; 201],
+) -> Found
+    requires { ⌜ rows ≤ 200 ⌝ }
+    requires { ⌜ ((k : ℕ) → k < rows + 1 → parentIn branches k < 201) ⌝ }
+    ensures { λ r. ⌜ ((f : Feeder) (g : Network) (x : Reported) (t : ReportRead) → Held f g → ReportHeld (rowCount f) x t → rows ≡ g .rows → nodes ≡ g .nodes → branches ≡ g .branches → names ≡ t .«node_names» → froms ≡ t .«from_names» → tos ≡ t .«to_names» → r ≡ nameDiffers f x) ⌝ }
+{
+    let found = first_node_name(nodes, rows, names);
+    match found {
+        Found::At(line) => Found::At(line),
+        Found::Nothing => first_branch_name(nodes, branches, rows, froms, tos),
+    }
+}
+
+// ---- 52
+// Nothing on a phase that is not there.
+fn zero_unless(on: bool, x: Pair) -> bool
+    ensures { λ r. ⌜ r ≡ cond on true (same x 0c) ⌝ }
+{
+    if on {
+        return true;
+    }
+    same_pair(x, Pair { re: 0, im: 0 })
+}
+
+fn absent_zero(phases: Phases, x: Three) -> bool
+    ensures { λ r. ⌜ r ≡ absentZero phases x ⌝ }
+{
+    let a = zero_unless(phases.a, x.a);
+    let b = zero_unless(phases.b, x.b);
+    let c = zero_unless(phases.c, x.c);
+    all_of(a, b, c)
+}
+
+// The first node row with a voltage on an absent phase. The source has all phases.
+fn first_absent(branches: [Branch; 201], rows: usize, voltages: [Three; 201]) -> Found
+    requires { ⌜ rows ≤ 200 ⌝ }
+    ensures { λ r. ⌜ r ≡ nodeScan (absentDiffers branches voltages) rows ⌝ }
+{
+    let mut k = 1;
+    while k <= rows {
+        let b = branches[k];
+        let v = voltages[k];
+        if !absent_zero(b.phases, v) {
+            return Found::At(k + 2);
+        }
+        k += 1;
+    }
+    Found::Nothing
+}
+
+// 52: "source voltages are equal and absent phases 0".
+pub fn first_source_differs(
+    source: Three,
+    branches: [Branch; 201],
+    rows: usize,
+    voltages: [Three; 201],
+) -> Found
+    requires { ⌜ rows ≤ 200 ⌝ }
+    ensures { λ r. ⌜ ((f : Feeder) (g : Network) (x : Reported) (t : ReportRead) → Held f g → ReportHeld (rowCount f) x t → source ≡ g .source → rows ≡ g .rows → branches ≡ g .branches → voltages ≡ t .voltages → r ≡ sourceDiffers f x) ⌝ }
+{
+    let v = voltages[0];
+    if !same_three(v, source) {
+        return Found::At(2);
+    }
+    first_absent(branches, rows, voltages)
+}
+
+// ---- 53
+// The first branch row with another current than the worked one.
+fn first_three_differs(rows: usize, reported: [Three; 201], worked: [Three; 201]) -> Found
+    requires { ⌜ rows ≤ 200 ⌝ }
+    ensures { λ r. ⌜ r ≡ rowScan (threeDiffers reported worked) rows ⌝ }
+{
+    let mut k = 1;
+    while k <= rows {
+        let x = reported[k];
+        let y = worked[k];
+        if !same_three(x, y) {
+            return Found::At(rows + 4 + k);
+        }
+        k += 1;
+    }
+    Found::Nothing
+}
+
+// 53: "every reported I follows from load currents at the reported V".
+pub fn first_current_differs(rows: usize, reported: [Three; 201], worked: [Three; 201]) -> Found
+    requires { ⌜ rows ≤ 200 ⌝ }
+    ensures { λ r. ⌜ ((f : Feeder) (x : Reported) (t : ReportRead) (i : List Three) → ReportHeld (rowCount f) x t → rows ≡ rowCount f → reported ≡ t .currents → worked ≡ kept zero3 201 i → r ≡ currentDiffers f x i) ⌝ }
+{
+    first_three_differs(rows, reported, worked)
+}
+
+// ---- 55
+// Whether each row's loss is the worked one.
+fn losses_same(rows: usize, losses: [Pair; 201], worked: [Pair; 201]) -> bool
+    requires { ⌜ rows ≤ 200 ⌝ }
+    ensures { λ r. ⌜ r ≡ all (lossesSame losses worked) (count 1 rows) ⌝ }
+{
+    let mut k = 1;
+    while k <= rows {
+        let x = losses[k];
+        let y = worked[k];
+        if !same_pair(x, y) {
+            return false;
+        }
+        k += 1;
+    }
+    true
+}
+
+// The pair whose first part is the number at place k.
+fn pair_from(totals: [i64; 7], k: usize) -> Pair
+    requires { ⌜ k ≤ 5 ⌝ }
+    ensures { λ r. ⌜ r ≡ pairFrom totals k ⌝ }
+{
+    let re = totals[k];
+    let im = totals[k + 1];
+    Pair { re, im }
+}
+
+// 55: "losses and totals are equal". The totals' first number is the sweeps.
+pub fn totals_differ(
+    rows: usize,
+    losses: [Pair; 201],
+    worked: [Pair; 201],
+    totals: [i64; 7],
+    source: Pair,
+    drawn: Pair,
+    lost: Pair,
+) -> bool
+    requires { ⌜ rows ≤ 200 ⌝ }
+    ensures { λ r. ⌜ ((f : Feeder) (x : Reported) (t : ReportRead) (v i : List Three) → ReportHeld (rowCount f) x t → rows ≡ rowCount f → losses ≡ t .losses → worked ≡ kept 0c 201 (0c ∷ map (lossOf f i) (rowsOf f)) → totals ≡ t .totals → source ≡ sourcePower f i → drawn ≡ drawnPower f v → lost ≡ lostPower f i → r ≡ totalDiffers f x v i) ⌝ }
+{
+    if !losses_same(rows, losses, worked) {
+        return true;
+    }
+    let sent = pair_from(totals, 1);
+    let taken = pair_from(totals, 3);
+    let gone = pair_from(totals, 5);
+    let a = same_pair(sent, source);
+    let b = same_pair(taken, drawn);
+    let c = same_pair(gone, lost);
+    !all_of(a, b, c)
+}
