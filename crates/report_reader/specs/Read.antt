@@ -5,7 +5,7 @@ use mathlib.Core.Path.{_≡_}
 use Prim.Native.Nat.{_+_, _≤_, suc, ℕ}
 use Prim.Native.String.{String}
 use lib.IntN.{pos, ℤ}
-use lib.ListN.{getD, length, replicate, set, take}
+use lib.ListN.{getD, length, replicate, take}
 use Rattle.answers.specs.Answers.{Outcome, good, refused}
 use Rattle.answers.specs.declared.Refusal.the-variants.{ReportLayout}
 use Rattle.answers.specs.declared.Refusal.{Refusal}
@@ -81,15 +81,6 @@ pub record Empty (at : ℕ) (t : Table) : Type 0 where
   pub threes : t .threes ≡ replicate 201 zero3
   pub pairs : t .pairs ≡ replicate 201 0c
   pub inside : t .inside ≡ true
-
-pub record Kept (t : Table) (k : ℕ) (row : RowRead) (r : Table) : Type 0 where
-  pub ok : r .ok ≡ true
-  pub next : r .next ≡ row .next
-  pub first : r .first ≡ set (t .first) k (row .first)
-  pub second : r .second ≡ set (t .second) k (row .second)
-  pub threes : r .threes ≡ set (t .threes) k (row .three)
-  pub pairs : r .pairs ≡ set (t .pairs) k (row .pair)
-  pub inside : r .inside ≡ (t .inside && row .inside)
 
 -- what an array holds of the rows l
 abbrev pub columnOf : {X : Type 0} → X → Bool → (Row → X) → List Row → List X

@@ -18,7 +18,7 @@ use Rattle.feeder.specs.Network.{kept}
 use Rattle.feeder.specs.NetworkLaws.{kept-next}
 use Rattle.equations.specs.Equations.{zero3}
 use Rattle.report.specs.Report.{rowsJust, tableOf}
-use Rattle.report_reader.specs.Read.{Empty, Kept, RowHeld, RowsHeld, TableHeld, columnOf, nameCount, rowAt, rowInside, unused, unusedCount, valueCount}
+use Rattle.report_reader.specs.Read.{Empty, RowHeld, RowsHeld, TableHeld, columnOf, nameCount, rowAt, rowInside, unused, unusedCount, valueCount}
 use Rattle.report_reader.specs.declared.fields.RowRead.{RowRead}
 use Rattle.report_reader.specs.declared.rows.Table.{Table}
 
@@ -64,13 +64,13 @@ pub unused-length : {X : Type 0} (branch : Bool) (d : X) → length (unused bran
 unused-length true d = refl
 unused-length false d = refl
 
-column-next : {X : Type 0} (d : X) (branch : Bool) (g : Row → X) (l : List Row) (x : Row) (k : ℕ) (cells now : List X) (y : X) → k ≡ unusedCount branch + length l → k < 201 →
-    cells ≡ columnOf d branch g l → y ≡ g x → now ≡ set cells k y → now ≡ columnOf d branch g (l ++ (x ∷ []))
-column-next d branch g l x k cells now y c h e f a =
+column-next : {X : Type 0} (d : X) (branch : Bool) (g : Row → X) (l : List Row) (x : Row) (k : ℕ) (cells : List X) (y : X) → k ≡ unusedCount branch + length l → k < 201 →
+    cells ≡ columnOf d branch g l → y ≡ g x → set cells k y ≡ columnOf d branch g (l ++ (x ∷ []))
+column-next d branch g l x k cells y c h e f =
     let u = unused branch d ++ map g l in
     let z : length u ≡ k = simp (length-append, unused-length branch d, length-map) (sym c) in
     let w : u ++ (g x ∷ []) ≡ unused branch d ++ map g (l ++ (x ∷ [])) = simp (append-assoc, map-append) in
-    a ∙ (λ i. set (e i) (sym z i) (f i)) ∙ kept-next d 201 u (g x) (omega arith) ∙ ap (kept d 201) w
+    (λ i. set (e i) (sym z i) (f i)) ∙ kept-next d 201 u (g x) (omega arith) ∙ ap (kept d 201) w
 
 all-next : (f : Row → Bool) (l : List Row) (x : Row) → all f (l ++ (x ∷ [])) ≡ (all f l && f x)
 unfolding all
@@ -92,6 +92,11 @@ pub record Going (branch : Bool) (s : List ℕ) (from count last : ℕ) (t : Tab
   pub ok : t .ok ≡ true
   pub held : RowsHeld branch list t
   pub within : t .next ≤ length s
+
+-- the table with a row more, at place k
+abbrev pub added : Table → ℕ → RowRead → Bool → Table
+added t k x inside =
+    record { ok = t .ok; next = x .next; first = set (t .first) k (x .first); second = set (t .second) k (x .second); threes = set (t .threes) k (x .three); pairs = set (t .pairs) k (x .pair); inside = inside }
 
 module _ (branch : Bool) (s : List ℕ) (from count last : ℕ) where
   pub going-start : (t : Table) (k : ℕ) → Empty from t → k ≡ unusedCount branch → last ≡ k + count → last ≤ 201 → from ≤ length s → Going branch s from count last t k
@@ -130,28 +135,27 @@ module _ (branch : Bool) (s : List ℕ) (from count last : ℕ) where
     pub going-stop : k < last → rowAt branch s (t .next) ≡ refused ReportLayout → rowsJust count (nameCount branch) (valueCount branch) s from ≡ refused ReportLayout
     going-stop h e = g .whole ∙ just-stop (nameCount branch) (valueCount branch) s (t .next) (g .list) (last - k) (omega arith) e
 
-    pub going-next : (x : RowRead) (r : Table) → k < last → RowHeld branch s (t .next) x → Kept t k x r → Going branch s from count last r (k + 1)
-    going-next x r h w e =
+    pub going-next : (x : RowRead) (inside : Bool) → k < last → RowHeld branch s (t .next) x → inside ≡ (t .inside && x .inside) → Going branch s from count last (added t k x inside) (k + 1)
+    going-next x inside h w e =
         let z : last - k - 1 ≡ last - (k + 1) = omega arith in
         let q : k < 201 = omega arith in
         let l = g .list in
-        let more = g .list ++ (w .read ∷ []) in
         record {
-          list = more;
-          whole = g .whole ∙ just-next (nameCount branch) (valueCount branch) s (t .next) l (last - k) (w .read) (x .next) (omega arith) (w .whole) ∙ simp (z, e .next);
+          list = l ++ (w .read ∷ []);
+          whole = g .whole ∙ just-next (nameCount branch) (valueCount branch) s (t .next) l (last - k) (w .read) (x .next) (omega arith) (w .whole) ∙ simp z;
           counted = simp length-append (omega arith);
           ends = g .ends;
           room = g .room;
           before = omega arith;
-          ok = e .ok;
+          ok = g .ok;
           held = record {
-            first = column-next 0 branch _ l (w .read) k (t .first) (r .first) (x .first) (g .counted) q (g .held .first) (w .first) (e .first);
-            second = column-next 0 branch _ l (w .read) k (t .second) (r .second) (x .second) (g .counted) q (g .held .second) (w .second) (e .second);
-            threes = column-next zero3 branch _ l (w .read) k (t .threes) (r .threes) (x .three) (g .counted) q (g .held .threes) (w .three) (e .threes);
-            pairs = column-next 0c branch _ l (w .read) k (t .pairs) (r .pairs) (x .pair) (g .counted) q (g .held .pairs) (w .pair) (e .pairs);
-            inside = e .inside ∙ (λ i. g .held .inside i && w .inside i) ∙ sym (all-next (rowInside branch) l (w .read));
+            first = column-next 0 branch _ l (w .read) k (t .first) (x .first) (g .counted) q (g .held .first) (w .first);
+            second = column-next 0 branch _ l (w .read) k (t .second) (x .second) (g .counted) q (g .held .second) (w .second);
+            threes = column-next zero3 branch _ l (w .read) k (t .threes) (x .three) (g .counted) q (g .held .threes) (w .three);
+            pairs = column-next 0c branch _ l (w .read) k (t .pairs) (x .pair) (g .counted) q (g .held .pairs) (w .pair);
+            inside = e ∙ (λ i. g .held .inside i && w .inside i) ∙ sym (all-next (rowInside branch) l (w .read));
           };
-          within = rw (e .next) (w .within);
+          within = w .within;
         }
 
 -- ---- the line of names in front of the rows, and the empty line behind them

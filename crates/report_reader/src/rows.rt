@@ -4,8 +4,7 @@ ghost use mathlib.Core.Bool.{_&&_};
 ghost use Prim.Native.Nat.{_+_, _<_, _≤_};
 ghost use lib.ListN.{length};
 ghost use Rattle.report.specs.Report.{rowsJust};
-ghost use Rattle.report_reader.specs.Read.{Empty, Kept, NamedTable, TableIs, nameCount, unusedCount, valueCount};
-use crate::fields::RowRead;
+ghost use Rattle.report_reader.specs.Read.{Empty, NamedTable, TableIs, nameCount, unusedCount, valueCount};
 use crate::fields::read_row;
 use feeder::Three;
 use integers::Pair;
@@ -54,32 +53,6 @@ fn both(a: bool, b: bool) -> bool
     a && b
 }
 
-// The table with a row more, at place k.
-fn keep(t: Table, k: usize, row: RowRead) -> Table
-    requires { ⌜ k < 201 ⌝ }
-    ensures { λ r. ⌜ Kept t k row r ⌝ }
-{
-    let mut first = t.first;
-    let mut second = t.second;
-    let mut threes = t.threes;
-    let mut pairs = t.pairs;
-    let three = row.three;
-    let pair = row.pair;
-    first[k] = row.first;
-    second[k] = row.second;
-    threes[k] = three;
-    pairs[k] = pair;
-    Table {
-        ok: true,
-        next: row.next,
-        first,
-        second,
-        threes,
-        pairs,
-        inside: both(t.inside, row.inside),
-    }
-}
-
 // The places in front of the first row.
 fn unused_count(branch: bool) -> usize
     ensures { λ r. ⌜ r ≡ unusedCount branch ⌝ }
@@ -103,7 +76,14 @@ fn read_rows(part: &[u8], from: usize, count: usize, branch: bool) -> Table
             t.ok = false;
             return t;
         }
-        t = keep(t, k, row);
+        let three = row.three;
+        let pair = row.pair;
+        t.first[k] = row.first;
+        t.second[k] = row.second;
+        t.threes[k] = three;
+        t.pairs[k] = pair;
+        t.next = row.next;
+        t.inside = both(t.inside, row.inside);
         k += 1;
     }
     t

@@ -33,17 +33,41 @@ read-row-requires c κs = search needs
 returns : tie.Need-returns Inv-loop μ-loop
 returns c = refused-answer (going-stop _ _ _ _ _ _ _ (c .before .before .before .before .loop .inv) (c .before .before .before .loop-test .taken) (c .before .before .read-row .ensures .refusal (not-true _ (c .if1 .taken)))) refl
 
-keep-requires : tie.Need-keep-requires Inv-loop μ-loop
-keep-requires c κs = search needs
+mul-t : tie.Need-mul-t Inv-loop μ-loop
+mul-t c = search needs
+
+element-write-t : tie.Need-element-write-t Inv-loop μ-loop
+element-write-t c = search needs
+
+mul-t-2 : tie.Need-mul-t-2 Inv-loop μ-loop
+mul-t-2 c = search needs
+
+element-write-t-2 : tie.Need-element-write-t-2 Inv-loop μ-loop
+element-write-t-2 c = search needs
+
+mul-three : tie.Need-mul-three Inv-loop μ-loop
+mul-three c = search needs
+
+element-set-from-three : tie.Need-element-set-from-three Inv-loop μ-loop
+element-set-from-three c = search needs
+
+mul-pair : tie.Need-mul-pair Inv-loop μ-loop
+mul-pair c = search needs
+
+element-set-from-pair : tie.Need-element-set-from-pair Inv-loop μ-loop
+element-set-from-pair c = search needs
+
+both-requires : tie.Need-both-requires Inv-loop μ-loop
+both-requires c κs = search needs
 
 add-k : tie.Need-add-k Inv-loop μ-loop
 add-k c = search needs
 
 loop-less : tie.Need-loop-less Inv-loop μ-loop
-loop-less c = omega (arith, c .before .before .before .before .loop-test .taken)
+loop-less c = omega (arith, c .before .before .before .before .before .before .loop-test .taken)
 
 loop-again : tie.Need-loop-again Inv-loop μ-loop
-loop-again c = going-next _ _ _ _ _ _ _ (c .before .before .before .before .before .loop .inv) _ _ (c .before .before .before .before .loop-test .taken) (c .before .before .before .read-row .ensures .held (not-false _ (c .before .if1 .left))) (c .keep .ensures)
+loop-again c = going-next _ _ _ _ _ _ _ (c .before .before .before .before .before .before .before .loop .inv) _ _ (c .before .before .before .before .before .before .loop-test .taken) (c .before .before .before .before .before .read-row .ensures .held (not-false _ (c .before .before .before .if1 .left))) (c .both .ensures)
 
 returns-2 : tie.Need-returns-2 Inv-loop μ-loop
 returns-2 c = held-answer (going-end _ _ _ _ _ _ _ (c .before .loop .inv) (c .loop-test .left)) (c .before .loop .inv .ok)
@@ -60,7 +84,15 @@ read-rows-spec =
     loop-holds
     read-row-requires
     returns
-    keep-requires
+    mul-t
+    element-write-t
+    mul-t-2
+    element-write-t-2
+    mul-three
+    element-set-from-three
+    mul-pair
+    element-set-from-pair
+    both-requires
     add-k
     loop-less
     loop-again
