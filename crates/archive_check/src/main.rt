@@ -1,8 +1,7 @@
 // The check's program: `archive_check FEEDER REPORT` reads the two files and writes "pass", or the one line "refused NUMBER VALUE". A file that
 // cannot be opened or read is named on standard error, and nothing is written to standard output.
-use answers::Refusal;
-use answers::number_of;
-use answers::value_of;
+use programs::print_refusal;
+use programs::used;
 use report_check::Verdict;
 use report_check::check;
 
@@ -47,27 +46,6 @@ fn print_verdict(feeder: &[u8], report: &[u8]) {
     }
 }
 
-fn print_refusal(x: Refusal) {
-    let number = number_of(x);
-    let value = value_of(x);
-    io::write_all(1, b"refused ");
-    io::print_decimal(1, number as u64);
-    io::write_all(1, b" ");
-    io::print_decimal(1, value as u64);
-    io::write_all(1, b"\n");
-}
-
-// The check of the first n and m bytes of the two buffers: what was read into them.
-fn check_texts(feeder: &[u8], n: usize, report: &[u8], m: usize) {
-    if feeder.len() < n {
-        return;
-    }
-    if report.len() < m {
-        return;
-    }
-    print_verdict(&feeder[0..n], &report[0..m]);
-}
-
 fn main() {
     let mut feeder = [0u8; 65537];
     let Got::Size(n) = read_named(1, &mut feeder) else {
@@ -77,5 +55,7 @@ fn main() {
     let Got::Size(m) = read_named(2, &mut report) else {
         return;
     };
-    check_texts(&feeder, n, &report, m);
+    let n = used(n, &feeder);
+    let m = used(m, &report);
+    print_verdict(&feeder[..n], &report[..m]);
 }

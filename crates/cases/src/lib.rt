@@ -1,54 +1,40 @@
-// What the programs that try the test cases share: the file of cases, the numbers in a case's first line, its texts, and the lines that are
-// written. A text or a line that does not fit is cut short or left out: tools/archive.py writes only what fits.
-use answers::Refusal;
-use answers::number_of;
-use answers::value_of;
+// The test cases that tools/archive.py packs. A case is a line `ROOM,FEEDER,REPORT`, with a buffer's length and the lengths of two texts, each 0
+// where there is none, and then the two texts. A text that does not fit is cut short: tools/archive.py writes only what fits.
+ghost use Prim.Native.Nat.{_+_, _≤_, min};
+ghost use lib.ListN.{length};
 use archive::unpack;
 use integers::whole;
-use libc::STDOUT_FILENO;
 use text::Field;
 use text::read::read_number;
-use text::write::number_width;
-use text::write::put_bytes;
-use text::write::put_number;
-ghost use mathlib.Core.Path.{_≡_};
-ghost use Prim.Native.Nat.{_≤_};
-ghost use lib.ListN.{length};
 
-// Room for the packed cases, and for the unpacked ones.
-fn packed_space() -> [u8; 262144] {
-    [0; 262144]
-}
-
-pub fn text_space() -> [u8; 2097152] {
-    [0; 2097152]
-}
-
-// The cases of the file `cases`, unpacked. The answer is how many bytes they have.
-pub fn read_cases(text: &mut [u8; 2097152]) -> usize {
-    let fd = os::open_read(b"cases");
+// The cases of a file, unpacked. The answer is how many bytes they have.
+pub fn read_cases(name: &[u8], text: &mut [u8]) -> usize {
+    let fd = os::open_read(name);
     if fd < 0 {
-        os::fail(b"cases");
+        os::fail(name);
         return 0;
     }
-    let mut packed = packed_space();
+    let mut packed = [0u8; 262144];
     let size = io::read_full(fd, &mut packed);
     libc::close(fd);
     unpack(&packed[..size], text)
 }
 
-// A number of a case's first line, and the place behind its separator. Where none stands there, that is the place itself.
+// A number and the place behind its separator. Where no number stands, that is 0 and the text's end.
 pub struct Count {
     pub value: usize,
     pub next: usize,
 }
 
+// The number at a place. The place behind it lies further on, or is the text's end.
 pub fn count_at(text: &[u8], at: usize, sep: u8) -> Count
-    requires { ⌜ at ≤ length (now text) ⌝ }
-    ensures { λ r. ⌜ r .next ≤ length (now (text .entry)) ⌝ }
+    ensures { λ r. ⌜ (r .next ≤ length (now (text .entry))) × (min (at + 1) (length (now (text .entry))) ≤ r .next) ⌝ }
 {
     let Field::Number(z, next) = read_number(text, at, sep) else {
-        return Count { value: 0, next: at };
+        return Count {
+            value: 0,
+            next: text.len(),
+        };
     };
     let size = whole::size(z);
     Count {
@@ -57,8 +43,8 @@ pub fn count_at(text: &[u8], at: usize, sep: u8) -> Count
     }
 }
 
-// The end of a case's text that begins at a place and has so many bytes.
-pub fn end_of(text: &[u8], from: usize, size: usize) -> usize
+// The end of a text that begins at a place and has so many bytes.
+fn end_of(text: &[u8], from: usize, size: usize) -> usize
     requires { ⌜ from ≤ length (now text) ⌝ }
     ensures { λ r. ⌜ (from ≤ r) × (r ≤ length (now (text .entry))) ⌝ }
 {
@@ -68,63 +54,27 @@ pub fn end_of(text: &[u8], from: usize, size: usize) -> usize
     from + size
 }
 
-// A word, or a line's end. The answer is the place behind it.
-pub fn put_word(out: &mut [u8], at: usize, word: &[u8]) -> usize
-    requires { ⌜ at ≤ length (now out) ⌝ }
-    ensures { λ r. ⌜ r ≤ length (now (out .entry)) ⌝ }
-    ensures { λ _. ⌜ length (now (out .exit)) ≡ length (now (out .entry)) ⌝ }
-{
-    if out.len() - at < word.len() {
-        return at;
-    }
-    put_bytes(out, at, word)
+// A case: its buffer's length, and where its feeder begins, where its report begins, and where it ends.
+pub struct Case {
+    pub room: usize,
+    pub feeder: usize,
+    pub report: usize,
+    pub end: usize,
 }
 
-// A number. The answer is the place behind it.
-pub fn put_count(out: &mut [u8], at: usize, n: usize) -> usize
-    requires { ⌜ at ≤ length (now out) ⌝ }
-    ensures { λ r. ⌜ r ≤ length (now (out .entry)) ⌝ }
-    ensures { λ _. ⌜ length (now (out .exit)) ≡ length (now (out .entry)) ⌝ }
+// The case at a place. Its end lies further on, or is the text's end.
+pub fn case_at(text: &[u8], at: usize) -> Case
+    ensures { λ r. ⌜ (r .feeder ≤ r .report) × (r .report ≤ r .end) × (r .end ≤ length (now (text .entry))) × (min (at + 1) (length (now (text .entry))) ≤ r .end) ⌝ }
 {
-    if 9223372036854775807 < n {
-        return at;
+    let room = count_at(text, at, 44);
+    let feeder = count_at(text, room.next, 44);
+    let report = count_at(text, feeder.next, 10);
+    let middle = end_of(text, report.next, feeder.value);
+    let end = end_of(text, middle, report.value);
+    Case {
+        room: room.value,
+        feeder: report.next,
+        report: middle,
+        end,
     }
-    let z = whole::signed(n as u64);
-    let width = number_width(z);
-    if out.len() - at < width {
-        return at;
-    }
-    put_number(out, at, z)
-}
-
-// The line of a case that is refused: its number, 'refused', and the refusal's number and value.
-pub fn put_refused(out: &mut [u8], at: usize, case: usize, x: Refusal) -> usize
-    requires { ⌜ at ≤ length (now out) ⌝ }
-    ensures { λ r. ⌜ r ≤ length (now (out .entry)) ⌝ }
-    ensures { λ _. ⌜ length (now (out .exit)) ≡ length (now (out .entry)) ⌝ }
-{
-    let mut n = put_count(out, at, case);
-    n = put_word(out, n, b" refused ");
-    n = put_count(out, n, number_of(x));
-    n = put_word(out, n, b" ");
-    n = put_count(out, n, value_of(x));
-    put_word(out, n, b"\n")
-}
-
-// The line of a case of which nothing but that it is good is said.
-pub fn put_good(out: &mut [u8], at: usize, case: usize) -> usize
-    requires { ⌜ at ≤ length (now out) ⌝ }
-    ensures { λ r. ⌜ r ≤ length (now (out .entry)) ⌝ }
-    ensures { λ _. ⌜ length (now (out .exit)) ≡ length (now (out .entry)) ⌝ }
-{
-    let n = put_count(out, at, case);
-    put_word(out, n, b" good\n")
-}
-
-// The first bytes of the lines, to standard output.
-pub fn write_start(lines: &[u8], size: usize) {
-    if lines.len() < size {
-        return;
-    }
-    io::write_all(STDOUT_FILENO, &lines[0..size]);
 }

@@ -1,0 +1,47 @@
+-- `last_line` is safe and ends: k goes up to the text's length. Assumes nothing.
+use Prim.Native.Nat.{_≤_, _-_}
+use lib.ListN.{length}
+use borrow.Author.Needs.{needs}
+use Rattle.vectors.proofs.last_line.Statement.{statement}
+use Rattle.vectors.proofs.last_line.Tie as tie
+
+abbrev Inv-loop : tie.InvT-loop
+Inv-loop text start₀ k₀ start k = 1 ≤ k
+
+abbrev μ-loop : tie.MeasureT-loop
+μ-loop text start₀ k₀ start k = length text - k
+
+loop-holds : tie.Need-loop-holds Inv-loop μ-loop
+loop-holds c = search needs
+
+sub-if1 : tie.Need-sub-if1 Inv-loop μ-loop
+sub-if1 c = search needs
+
+shared-slice-read-if1 : tie.Need-shared-slice-read-if1 Inv-loop μ-loop
+shared-slice-read-if1 c = search needs
+
+add-k : tie.Need-add-k Inv-loop μ-loop
+add-k c = search needs
+
+loop-less : tie.Need-loop-less Inv-loop μ-loop
+loop-less c = search needs
+
+loop-again : tie.Need-loop-again Inv-loop μ-loop
+loop-again c = search needs
+
+returns : tie.Need-returns Inv-loop μ-loop
+returns c = search needs
+
+pub last-line-spec : {M : Type 1} → statement M
+last-line-spec =
+    tie.close
+    (tie.spec
+    Inv-loop
+    μ-loop
+    loop-holds
+    sub-if1
+    shared-slice-read-if1
+    add-k
+    loop-less
+    loop-again
+    returns)

@@ -1,0 +1,145 @@
+// Tries the test cases of the reading, the study and the check, each kind from the file of its name. It writes the kind, and then a line for each
+// case: its number, and 'good', or 'refused' with the refusal's number and value, or 'differs' where the study's buffer or answer is not the case's.
+ghost use Prim.Native.Nat.{_≤_};
+ghost use lib.ListN.{length};
+use cases::Case;
+use cases::case_at;
+use cases::count_at;
+use cases::read_cases;
+use ladder::Study;
+use ladder::study_feeder;
+use libc::STDOUT_FILENO;
+use programs::print_refusal;
+use programs::used;
+use reading::ReadAnswer;
+use reading::read_feeder;
+use report_check::Verdict;
+use text::write::put_bytes;
+
+enum Kind {
+    Reading,
+    Study,
+    Check,
+}
+
+fn print(words: &[u8]) {
+    io::write_all(STDOUT_FILENO, words);
+}
+
+fn try_reading(feeder: &[u8]) {
+    let read = read_feeder(feeder);
+    let answer = read.answer;
+    match answer {
+        ReadAnswer::Good => print(b"good\n"),
+        ReadAnswer::Refused(x) => print_refusal(x),
+    }
+}
+
+// The study with the buffer's first bytes as its buffer.
+fn study_in(feeder: &[u8], buffer: &mut [u8], room: usize) -> Study {
+    if buffer.len() < room {
+        return study_feeder(feeder, buffer);
+    }
+    study_feeder(feeder, &mut buffer[0..room])
+}
+
+// What a buffer that was filled with 7 then holds: the report, which is empty where the case is refused, and 7 behind it.
+fn buffer_with(report: &[u8]) -> [u8; 65536] {
+    let mut buffer = [7u8; 65536];
+    if report.len() <= 65536 {
+        put_bytes(&mut buffer, 0, report);
+    }
+    buffer
+}
+
+// The place where the last line begins.
+fn last_line(text: &[u8]) -> usize {
+    let mut start = 0;
+    let mut k = 1;
+    while k < text.len() {
+        if text[k - 1] == 10 {
+            start = k;
+        }
+        k += 1;
+    }
+    start
+}
+
+// Whether the answer tells the report's length, and the number of sweeps with which its last line begins.
+fn tells(answer: Study, report: &[u8]) -> bool {
+    let Study::Written(length, sweeps) = answer else {
+        return report.len() == 0;
+    };
+    let count = count_at(report, last_line(report), 44);
+    length == report.len() && sweeps == count.value
+}
+
+fn try_study(feeder: &[u8], report: &[u8], room: usize) {
+    let mut buffer = [7u8; 65536];
+    let answer = study_in(feeder, &mut buffer, room);
+    if !check::same(&buffer, &buffer_with(report)) || !tells(answer, report) {
+        print(b"differs\n");
+        return;
+    }
+    match answer {
+        Study::Written(_, _) => print(b"good\n"),
+        Study::NoReport(x) => print_refusal(x),
+    }
+}
+
+fn try_check(feeder: &[u8], report: &[u8]) {
+    let verdict = report_check::check(feeder, report);
+    match verdict {
+        Verdict::Pass => print(b"good\n"),
+        Verdict::Fail(x) => print_refusal(x),
+    }
+}
+
+// The line of one case, whose places lie in the text.
+fn try_case(kind: Kind, number: usize, text: &[u8], case: Case)
+    requires { ⌜ (case .feeder ≤ case .report) × (case .report ≤ case .end) × (case .end ≤ length (now text)) ⌝ }
+{
+    let from = case.feeder;
+    let middle = case.report;
+    let end = case.end;
+    let feeder = &text[from..middle];
+    let report = &text[middle..end];
+    io::print_decimal(STDOUT_FILENO, number as u64);
+    print(b" ");
+    match kind {
+        Kind::Reading => try_reading(feeder),
+        Kind::Study => try_study(feeder, report, case.room),
+        Kind::Check => try_check(feeder, report),
+    }
+}
+
+fn try_all(kind: Kind, text: &[u8]) {
+    let mut at = 0;
+    let mut number: usize = 0;
+    while at < text.len() {
+        let case = case_at(text, at);
+        number += 1;
+        try_case(kind, number, text, case);
+        at = case.end;
+    }
+}
+
+// Room for the cases of a file. Written out in the function that lends it, so long an array is more than the prover can follow.
+fn text_space() -> [u8; 2097152] {
+    [0; 2097152]
+}
+
+fn try_file(kind: Kind, name: &[u8]) {
+    print(name);
+    print(b"\n");
+    let mut text = text_space();
+    let size = read_cases(name, &mut text);
+    let n = used(size, &text);
+    try_all(kind, &text[..n]);
+}
+
+fn main() {
+    try_file(Kind::Reading, b"reading");
+    try_file(Kind::Study, b"study");
+    try_file(Kind::Check, b"check");
+}
