@@ -93,10 +93,18 @@ pub record Going (branch : Bool) (s : List ℕ) (from count last : ℕ) (t : Tab
   pub held : RowsHeld branch list t
   pub within : t .next ≤ length s
 
--- the table with a row more, at place k
+-- the table with the row x more, at place k, and whether all rows with it are in their limit
 abbrev pub added : Table → ℕ → RowRead → Bool → Table
 added t k x inside =
-    record { ok = t .ok; next = x .next; first = set (t .first) k (x .first); second = set (t .second) k (x .second); threes = set (t .threes) k (x .three); pairs = set (t .pairs) k (x .pair); inside = inside }
+    record {
+      ok = t .ok;
+      next = x .next;
+      first = set (t .first) k (x .first);
+      second = set (t .second) k (x .second);
+      threes = set (t .threes) k (x .three);
+      pairs = set (t .pairs) k (x .pair);
+      inside = inside;
+    }
 
 module _ (branch : Bool) (s : List ℕ) (from count last : ℕ) where
   pub going-start : (t : Table) (k : ℕ) → Empty from t → k ≡ unusedCount branch → last ≡ k + count → last ≤ 201 → from ≤ length s → Going branch s from count last t k

@@ -60,7 +60,8 @@ fn unused_count(branch: bool) -> usize
     if branch { 1 } else { 0 }
 }
 
-// Just so many rows, from a place on.
+// Just so many rows, from a place on. Each row is stored in the table's arrays where they stand, since a function that takes the table
+// and gives it back copies the whole of it for each row.
 fn read_rows(part: &[u8], from: usize, count: usize, branch: bool) -> Table
     requires { ⌜ from ≤ length (now part) ⌝ }
     requires { ⌜ unusedCount branch + count ≤ 201 ⌝ }
