@@ -7,22 +7,12 @@ use native.Mathlib.Omega.{arith}
 use lib.ListN.{getD, length}
 use Rattle.answers.specs.declared.Found.the-variants.{At}
 use Rattle.feeder.specs.Feeder.{firstRow}
-use Rattle.feeder.specs.Network.{kept}
 use Rattle.integers.specs.Bools.{both, joined}
 use Rattle.integers.specs.Lists.{all, count, tab}
 use Rattle.integers.specs.PairLaws.{pair-eq, same-true, true-same}
 use Rattle.integers.specs.Pairs.{same}
 use Rattle.integers.specs.declared.Pair.{Pair}
 use Rattle.passes.specs.Arrays.{same?}
-
--- an array has what stands at a place that it keeps, however long the list is
-pub kept-below : {X : Type 0} (d : X) (n : ℕ) (l : List X) (k : ℕ) → k < n → getD (kept d n l) k d ≡ getD l k d
-unfolding kept
-kept-below d zero l k h = absurd (omega arith)
-kept-below d (suc n) [] zero h = refl
-kept-below d (suc n) [] (suc k) h = kept-below d n [] k (omega arith)
-kept-below d (suc n) (x ∷ l) zero h = refl
-kept-below d (suc n) (x ∷ l) (suc k) h = kept-below d n l k (omega arith)
 
 -- the line of the first row of which a test fails
 pub first-row : (bad : ℕ → Bool) (before n k : ℕ) → 0 < k → k < suc n → ((j : ℕ) → 0 < j → j < k → bad j ≡ false) → bad k ≡ true →

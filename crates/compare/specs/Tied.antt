@@ -11,6 +11,7 @@ use Rattle.answers.specs.declared.Found.the-variants.{At, Nothing}
 use Rattle.equations.specs.Equations.{drawnPower, lossOf, lostPower, sourcePower, zero3}
 use Rattle.feeder.specs.Feeder.{Feeder, branchAt, firstRow, noBranch, orElse, parent, phasesOf, rowCount, rowsOf}
 use Rattle.feeder.specs.Network.{Held, kept}
+use Rattle.feeder.specs.NetworkLaws.{kept-below}
 use Rattle.feeder.specs.declared.Branch.{Branch}
 use Rattle.feeder.specs.declared.Network.{Network}
 use Rattle.feeder.specs.declared.Phases.{Phases}
@@ -25,14 +26,14 @@ use Rattle.radial.specs.Radial.{parentIn}
 use Rattle.report.specs.Report.{Reported, reportedCurrents, reportedLosses, reportedVoltages}
 use Rattle.compare.specs.Differences.{currentDiffers, nameAtNode, nameDiffers, noRow, same3, sourceDiffers, totalDiffers}
 use Rattle.compare.specs.Compare.{absentDiffers, absentZero, lossesSame, namesDiffer, nodeNameDiffers, nodeScan, phasesIn, rowScan, threeDiffers}
-use Rattle.compare.specs.Scans.{by-number, kept-below, same-all, same-rows}
+use Rattle.compare.specs.Scans.{by-number, same-all, same-rows}
 use Rattle.report_reader.specs.Read.{ReportHeld, pairFrom}
 use Rattle.report_reader.specs.declared.ReportRead.{ReportRead}
 use Rattle.text.specs.Lines.{Row, wordOf}
 
 -- what an array has at a place
 at-kept : {X : Type 0} (d : X) (r l : List X) (k : ℕ) → r ≡ kept d 201 l → k < 201 → getD r k d ≡ getD l k d
-at-kept d r l k e h = ap (λ (m : List _). getD m k d) e ∙ kept-below d 201 l k h
+at-kept d r l k e h = ap (λ (m : List _). getD m k d) e ∙ kept-below d d 201 l k h
 
 -- ---- 51 and 52: the arrays of a network and of a report
 module _ (f : Feeder) (g : Network) (x : Reported) (t : ReportRead) (h : Held f g) (w : ReportHeld (rowCount f) x t) (rows : ℕ) (rows-are : rows ≡ g .rows) (branches : List Branch) (branches-are : branches ≡ g .branches) where

@@ -28,6 +28,15 @@ getD-kept d (suc n) [] (suc k) h = kept-none d n k
 getD-kept d (suc n) (x ∷ l) zero h = refl
 getD-kept d (suc n) (x ∷ l) (suc k) h = getD-kept d n l k (omega arith)
 
+-- a place that is kept, however long the list is, and whatever x is read behind the array's end
+pub kept-below : {X : Type 0} (d x : X) (n : ℕ) (l : List X) (k : ℕ) → k < n → getD (kept d n l) k x ≡ getD l k d
+unfolding kept
+kept-below d x zero l k h = absurd (omega arith)
+kept-below d x (suc n) [] zero h = refl
+kept-below d x (suc n) [] (suc k) h = kept-below d x n [] k (omega arith)
+kept-below d x (suc n) (y ∷ l) zero h = refl
+kept-below d x (suc n) (y ∷ l) (suc k) h = kept-below d x n l k (omega arith)
+
 -- a row that is stored behind those that are kept, and one that finds no place
 pub kept-next : {X : Type 0} (d : X) (n : ℕ) (l : List X) (x : X) → length l < n → set (kept d n l) (length l) x ≡ kept d n (l ++ (x ∷ []))
 unfolding kept

@@ -10,6 +10,7 @@ use Rattle.answers.specs.declared.Found.{Found}
 use Rattle.answers.specs.declared.Found.the-variants.{At, Nothing}
 use Rattle.feeder.specs.Feeder.{branchIn, firstRow, loadIn, noPhases, zeros}
 use Rattle.feeder.specs.Network.{kept}
+use Rattle.feeder.specs.NetworkLaws.{kept-below}
 use Rattle.feeder.specs.declared.BranchRow.{BranchRow}
 use Rattle.feeder.specs.declared.Kind.the-variants.{L}
 use Rattle.feeder.specs.declared.LoadRow.{LoadRow}
@@ -54,15 +55,6 @@ pub first-end : {X : Type 0} (bad : ℕ → X → Bool) (before : ℕ) (l : List
 unfolding firstRow
 first-end bad before l k h = ap (λ m. firstRow bad before k m) (drop-of-length-le l {i = k - 1} (omega arith))
 
--- an array has what stands at a place that it keeps, however long the list is, and whatever x is read behind the array's end
-pub getD-kept-below : {X : Type 0} (d x : X) (n : ℕ) (l : List X) (i : ℕ) → i < n → getD (kept d n l) i x ≡ getD l i d
-unfolding kept
-getD-kept-below d x zero l i h = absurd (omega arith)
-getD-kept-below d x (suc n) [] zero h = refl
-getD-kept-below d x (suc n) [] (suc i) h = getD-kept-below d x n [] i (omega arith)
-getD-kept-below d x (suc n) (y ∷ l) zero h = refl
-getD-kept-below d x (suc n) (y ∷ l) (suc i) h = getD-kept-below d x n l i (omega arith)
-
 -- the x of the code's reads of branch rows: its p is empty, where `noBranchRow` has twelve numbers
 abbrev pub unread : BranchRow
 unread = record { from = 0; to = 0; phases = noPhases; kind = L; p = [] }
@@ -79,7 +71,7 @@ module _ {X : Type 0} {bad : ℕ → X → Bool} {before : ℕ} {d : X} {n : ℕ
 
   -- row k as the array has it
   row-kept : (x : X) → k ≤ n → (l : List X) → rows ≡ kept d n l → bad k (getD l (k - 1) d) ≡ bad k (getD rows (k - 1) x)
-  row-kept x h l e = ap (bad k) (sym (ap (λ (m : List X). getD m (k - 1) x) e ∙ getD-kept-below d x n l (k - 1) (omega (arith, p .from))))
+  row-kept x h l e = ap (bad k) (sym (ap (λ (m : List X). getD m (k - 1) x) e ∙ kept-below d x n l (k - 1) (omega (arith, p .from))))
 
   pub pass-row : (x : X) → k ≤ count → k ≤ n → bad k (getD rows (k - 1) x) ≡ false → Passed bad before d n rows count (k + 1)
   pass-row x h i clean = record { from = omega arith; rest = λ l e m. turn h l e m ∙ simp (row-kept x i l e, clean) }

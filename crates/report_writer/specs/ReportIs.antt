@@ -8,7 +8,7 @@ use lib.ListN.{getD, length, length-append}
 use Rattle.equations.specs.Equations.{drawnPower, lossOf, lostPower, sourcePower, zero3}
 use Rattle.feeder.specs.Feeder.{Feeder, branchAt, noBranch, parent, rowCount}
 use Rattle.feeder.specs.Network.{branchArray, kept}
-use Rattle.feeder.specs.NetworkLaws.{getD-kept}
+use Rattle.feeder.specs.NetworkLaws.{getD-kept, kept-below}
 use Rattle.feeder.specs.declared.Branch.{Branch}
 use Rattle.feeder.specs.declared.Three.{Three}
 use Rattle.integers.specs.Lists.{count, tab}
@@ -100,20 +100,11 @@ branches-joined g h n e =
     let z : suc n - 1 ≡ n = omega arith in
     rw z (same-joined g h 1 n (λ k p q. e k (omega arith) (omega arith)))
 
--- what an array keeps below its length
-kept-below : {X : Type 0} (d : X) (n : ℕ) (l : List X) (k : ℕ) → k < n → getD (kept d n l) k d ≡ getD l k d
-unfolding kept
-kept-below d zero l k h = absurd (omega arith)
-kept-below d (suc n) [] zero h = refl
-kept-below d (suc n) [] (suc k) h = kept-below d n [] k (omega arith)
-kept-below d (suc n) (x ∷ l) zero h = refl
-kept-below d (suc n) (x ∷ l) (suc k) h = kept-below d n l k (omega arith)
-
 module _ {f : Feeder} {vs is : List Three} {nodes : List ℕ} {branches : List Branch} {rows : ℕ} {v i : List Three} {losses : List Pair} {g : Figures}
     (s : Shown f vs is nodes branches rows v i losses g) where
   name-at : (k : ℕ) → k < 201 → nameText f k ≡ letters 8 (getD nodes k 0)
   unfolding nameText
-  name-at k h = rw (s .names) (ap (letters 8) (sym (kept-below 0 201 (f .nodes) k h)))
+  name-at k h = rw (s .names) (ap (letters 8) (sym (kept-below 0 0 201 (f .nodes) k h)))
 
   from-at : (k : ℕ) → fromIn branches k ≡ parent f k
   unfolding branchAt
