@@ -1,3 +1,4 @@
 pub mod Rest
+pub mod Slots
 pub mod Numbered
 pub mod NumberedLaws

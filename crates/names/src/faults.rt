@@ -8,7 +8,8 @@ ghost use Rattle.feeder.specs.Feeder.{allOf, firstRow, has, noBranch, phaseAbse
 ghost use Rattle.feeder.specs.Layout.{Rows};
 ghost use Rattle.names.specs.Numbered.{branchAbsent, branchesIn, loadAbsent, loadsIn, nodePhases, nodesIn, threePhaseOf};
 ghost use Rattle.names.specs.Rest.{rest};
-use crate::place_of;
+use crate::find;
+use crate::slots_of;
 use answers::Found;
 use feeder::Branch;
 use feeder::Device;
@@ -39,9 +40,10 @@ pub fn first_second_to(nodes: &[u64], count: usize) -> Found
     requires { ⌜ count + 1 ≤ length (now nodes) ⌝ }
     ensures { λ found. ⌜ ((r : Rows) → now (nodes .entry) ≡ nodesIn r → count ≡ length (r .branches) → found ≡ secondTo r) ⌝ }
 {
+    let slots = slots_of(nodes, count + 1);
     let mut k = 1;
     while k <= count {
-        let place = place_of(nodes[k], nodes, count + 1);
+        let place = find(nodes[k], nodes, count + 1, &slots);
         if place < k {
             return Found::At(4 + k);
         }

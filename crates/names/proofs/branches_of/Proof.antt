@@ -14,10 +14,16 @@ use Rattle.names.proofs.branches_of.Statement.{statement}
 use Rattle.names.proofs.branches_of.Tie as tie
 
 abbrev Inv-loop : tie.InvT-loop
-Inv-loop count nodes rows branches₀ i₀ branches i = (i ≤ count) × (branches ≡ kept noBranch 201 (noBranch ∷ map (branchOf (take (count + 1) nodes)) (take i rows)))
+Inv-loop count nodes rows slots branches₀ i₀ branches i = (i ≤ count) × (branches ≡ kept noBranch 201 (noBranch ∷ map (branchOf (take (count + 1) nodes)) (take i rows)))
 
 abbrev μ-loop : tie.MeasureT-loop
-μ-loop count nodes rows branches₀ i₀ branches i = count - i
+μ-loop count nodes rows slots branches₀ i₀ branches i = count - i
+
+add-slots-of : tie.Need-add-slots-of Inv-loop μ-loop
+add-slots-of c = search needs
+
+slots-of-requires : tie.Need-slots-of-requires Inv-loop μ-loop
+slots-of-requires c κs = search needs
 
 no-branch-requires : tie.Need-no-branch-requires Inv-loop μ-loop
 no-branch-requires c κs = search needs
@@ -52,21 +58,21 @@ add-i c = search needs
 loop-less : tie.Need-loop-less Inv-loop μ-loop
 loop-less c = search needs
 
-inside : (c : tie.After-row Inv-loop μ-loop) → c .before .before .loop .i < length (c .before .before .before .before .before .args .t1)
+inside : (c : tie.After-row Inv-loop μ-loop) → c .before .before .loop .i < length (c .before .before .before .before .before .before .args .t1)
 inside c = search needs
 
 loop-again : tie.Need-loop-again Inv-loop μ-loop
 loop-again c =
-    let a = c .before .before .before .before .before .before .args in
-    let j = c .before .before .before .loop .i in (
+    let a = c .before .before .before .before .before .before .before .before .args in
+    let j = c .before .before .before .before .loop .i in (
       search needs,
-      rw (c .before .before .before .loop .inv .1, c .branch-of .ensures)
-          (fill-next (branchOf (take (a .count + 1) (a .nodes .now))) noBranch 201 (noBranch ∷ []) unread (a .t1) j (j + 1) (inside (c .before)) (omega arith) (omega arith)),
+      rw (c .before .before .before .before .loop .inv .1, c .branch-of .ensures)
+          (fill-next (branchOf (take (a .count + 1) (a .nodes .now))) noBranch 201 (noBranch ∷ []) unread (a .t1) j (j + 1) (inside (c .before .before)) (omega arith) (omega arith)),
     )
 
 returns : tie.Need-returns Inv-loop μ-loop
 returns c = λ bs e n.
-    let a = c .before .before .before .before .args in
+    let a = c .before .before .before .before .before .args in
     c .before .loop .inv .1
     ∙ ap (λ (l : List BranchRow). kept noBranch 201 (noBranch ∷ map (branchOf (take (a .count + 1) (a .nodes .now))) l))
     (all-kept noBranchRow 200 bs (a .t1) (a .count) (c .before .loop .i) e n (omega arith) (omega arith))
@@ -77,6 +83,8 @@ branches-of-spec =
     (tie.spec
     Inv-loop
     μ-loop
+    add-slots-of
+    slots-of-requires
     no-branch-requires
     loop-holds
     mul-row

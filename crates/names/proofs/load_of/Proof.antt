@@ -3,11 +3,11 @@ use borrow.Author.Needs.{needs}
 use Rattle.names.proofs.load_of.Statement.{statement}
 use Rattle.names.proofs.load_of.Tie as tie
 
-place-of-requires : tie.Need-place-of-requires
-place-of-requires c κs = search needs
+find-requires : tie.Need-find-requires
+find-requires c κs = search needs
 
 returns : tie.Need-returns
-returns c = simp (c .before .before .place-of .ensures) (search needs)
+returns c = simp (c .before .before .find .ensures) (search needs)
 
 pub load-of-spec : {M : Type 1} → statement M
-load-of-spec = tie.close (tie.spec place-of-requires returns)
+load-of-spec = tie.close (tie.spec find-requires returns)

@@ -13,10 +13,13 @@ use Rattle.names.proofs.loads_of.Statement.{statement}
 use Rattle.names.proofs.loads_of.Tie as tie
 
 abbrev Inv-loop : tie.InvT-loop
-Inv-loop count nodes n rows loads₀ i₀ loads i = (i ≤ count) × (loads ≡ kept noLoad 300 (map (loadOf (take n nodes)) (take i rows)))
+Inv-loop count nodes n rows slots loads₀ i₀ loads i = (i ≤ count) × (loads ≡ kept noLoad 300 (map (loadOf (take n nodes)) (take i rows)))
 
 abbrev μ-loop : tie.MeasureT-loop
-μ-loop count nodes n rows loads₀ i₀ loads i = count - i
+μ-loop count nodes n rows slots loads₀ i₀ loads i = count - i
+
+slots-of-requires : tie.Need-slots-of-requires Inv-loop μ-loop
+slots-of-requires c κs = search needs
 
 no-load-requires : tie.Need-no-load-requires Inv-loop μ-loop
 no-load-requires c κs = search needs
@@ -45,21 +48,21 @@ add-i c = search needs
 loop-less : tie.Need-loop-less Inv-loop μ-loop
 loop-less c = search needs
 
-inside : (c : tie.After-row Inv-loop μ-loop) → c .before .before .loop .i < length (c .before .before .before .before .before .args .t1)
+inside : (c : tie.After-row Inv-loop μ-loop) → c .before .before .loop .i < length (c .before .before .before .before .before .before .args .t1)
 inside c = search needs
 
 loop-again : tie.Need-loop-again Inv-loop μ-loop
 loop-again c =
-    let a = c .before .before .before .before .before .before .args in
-    let j = c .before .before .before .loop .i in (
+    let a = c .before .before .before .before .before .before .before .before .args in
+    let j = c .before .before .before .before .loop .i in (
       search needs,
-      rw (c .before .before .before .loop .inv .1, c .load-of .ensures)
-          (fill-next (loadOf (take (a .n) (a .nodes .now))) noLoad 300 [] noLoadRow (a .t1) j j (inside (c .before)) (omega arith) (omega arith)),
+      rw (c .before .before .before .before .loop .inv .1, c .load-of .ensures)
+          (fill-next (loadOf (take (a .n) (a .nodes .now))) noLoad 300 [] noLoadRow (a .t1) j j (inside (c .before .before)) (omega arith) (omega arith)),
     )
 
 returns : tie.Need-returns Inv-loop μ-loop
 returns c = λ ls e n.
-    let a = c .before .before .before .before .args in
+    let a = c .before .before .before .before .before .args in
     c .before .loop .inv .1
     ∙ ap (λ (l : List LoadRow). kept noLoad 300 (map (loadOf (take (a .n) (a .nodes .now))) l))
     (all-kept noLoadRow 300 ls (a .t1) (a .count) (c .before .loop .i) e n (omega arith) (omega arith))
@@ -70,6 +73,7 @@ loads-of-spec =
     (tie.spec
     Inv-loop
     μ-loop
+    slots-of-requires
     no-load-requires
     loop-holds
     mul-row

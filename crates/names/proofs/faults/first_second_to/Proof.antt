@@ -13,37 +13,43 @@ use Rattle.names.proofs.faults.first_second_to.Statement.{statement}
 use Rattle.names.proofs.faults.first_second_to.Tie as tie
 
 abbrev Inv-loop : tie.InvT-loop
-Inv-loop nodes count k₀ k =
+Inv-loop nodes count slots k₀ k =
     (0 < k) × (k ≤ count + 1)
     × (firstRow (toSecond (take (count + 1) nodes)) 4 1 (rest 1 (count + 1) nodes) ≡ firstRow (toSecond (take (count + 1) nodes)) 4 k (rest k (count + 1) nodes))
 
 abbrev μ-loop : tie.MeasureT-loop
-μ-loop nodes count k₀ k = (count + 1) - k
+μ-loop nodes count slots k₀ k = (count + 1) - k
+
+add-slots-of : tie.Need-add-slots-of Inv-loop μ-loop
+add-slots-of c = search needs
+
+slots-of-requires : tie.Need-slots-of-requires Inv-loop μ-loop
+slots-of-requires c κs = search needs
 
 loop-holds : tie.Need-loop-holds Inv-loop μ-loop
 loop-holds c = search needs
 
-mul-place-of : tie.Need-mul-place-of Inv-loop μ-loop
-mul-place-of c = search needs
+mul-find : tie.Need-mul-find Inv-loop μ-loop
+mul-find c = search needs
 
-shared-slice-read-place-of : tie.Need-shared-slice-read-place-of Inv-loop μ-loop
-shared-slice-read-place-of c = search needs
+shared-slice-read-find : tie.Need-shared-slice-read-find Inv-loop μ-loop
+shared-slice-read-find c = search needs
 
-add-place-of : tie.Need-add-place-of Inv-loop μ-loop
-add-place-of c = search needs
+add-find : tie.Need-add-find Inv-loop μ-loop
+add-find c = search needs
 
-place-of-requires : tie.Need-place-of-requires Inv-loop μ-loop
-place-of-requires c κs = search needs
+find-requires : tie.Need-find-requires Inv-loop μ-loop
+find-requires c κs = search needs
 
-add-t10 : tie.Need-add-t10 Inv-loop μ-loop
-add-t10 c = search needs
+add-t14 : tie.Need-add-t14 Inv-loop μ-loop
+add-t14 c = search needs
 
 returns : tie.Need-returns Inv-loop μ-loop
 unfolding toSecond
 returns c = λ r e n.
-    let a = c .before .before .before .before .before .before .args in
-    let k = c .before .before .before .before .loop .k in
-    sym (c .before .before .before .before .loop .inv .2 ∙ first-here (toSecond (take (a .count + 1) (a .nodes .now))) 4 k 0 (a .nodes .now) (a .count + 1) k (omega arith) (omega arith) (rw (sym (c .before .place-of .ensures)) (lt-ltb (c .before .place-of .result) k (omega arith))))
+    let a = c .before .before .before .before .before .before .before .before .args in
+    let k = c .before .before .before .before .before .loop .k in
+    sym (c .before .before .before .before .before .loop .inv .2 ∙ first-here (toSecond (take (a .count + 1) (a .nodes .now))) 4 k 0 (a .nodes .now) (a .count + 1) k (omega arith) (omega arith) (rw (sym (c .before .find .ensures)) (lt-ltb (c .before .find .result) k (omega arith))))
     ∙ second-to r (a .count) n (omega arith) (a .nodes .now) e
 
 add-k : tie.Need-add-k Inv-loop μ-loop
@@ -55,13 +61,13 @@ loop-less c = search needs
 loop-again : tie.Need-loop-again Inv-loop μ-loop
 unfolding toSecond
 loop-again c =
-    let a = c .before .before .before .before .before .before .args in
-    let k = c .before .before .before .before .loop .k in
-    (omega arith, omega arith, c .before .before .before .before .loop .inv .2 ∙ first-next (toSecond (take (a .count + 1) (a .nodes .now))) 4 k 0 (a .nodes .now) (a .count + 1) k (omega arith) (omega arith) (rw (sym (c .before .place-of .ensures)) (le-ltb (c .before .place-of .result) k (omega arith))))
+    let a = c .before .before .before .before .before .before .before .before .args in
+    let k = c .before .before .before .before .before .loop .k in
+    (omega arith, omega arith, c .before .before .before .before .before .loop .inv .2 ∙ first-next (toSecond (take (a .count + 1) (a .nodes .now))) 4 k 0 (a .nodes .now) (a .count + 1) k (omega arith) (omega arith) (rw (sym (c .before .find .ensures)) (le-ltb (c .before .find .result) k (omega arith))))
 
 returns-2 : tie.Need-returns-2 Inv-loop μ-loop
 returns-2 c = λ r e n.
-    let a = c .before .before .before .args in
+    let a = c .before .before .before .before .args in
     let k = c .before .loop .k in
     sym (c .before .loop .inv .2 ∙ first-end (toSecond (take (a .count + 1) (a .nodes .now))) 4 k 0 (a .nodes .now) (a .count + 1) k (omega arith) (omega arith))
     ∙ second-to r (a .count) n (omega arith) (a .nodes .now) e
@@ -72,12 +78,14 @@ first-second-to-spec =
     (tie.spec
     Inv-loop
     μ-loop
+    add-slots-of
+    slots-of-requires
     loop-holds
-    mul-place-of
-    shared-slice-read-place-of
-    add-place-of
-    place-of-requires
-    add-t10
+    mul-find
+    shared-slice-read-find
+    add-find
+    find-requires
+    add-t14
     returns
     add-k
     loop-less
