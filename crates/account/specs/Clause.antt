@@ -10,9 +10,7 @@ use Rattle.answers.specs.Answers.{good}
 use Rattle.equations.specs.Equations.{currentAt, loadCurrent, mix, rated, voltageOn, weight, zero3}
 use Rattle.feeder.specs.Feeder.{Feeder, reading}
 use Rattle.feeder.specs.declared.Connection.the-variants.{Wye}
-use Rattle.feeder.specs.declared.Device.{Device}
 use Rattle.feeder.specs.declared.Device.the-variants.{Line, Regulator, Transformer}
-use Rattle.feeder.specs.declared.Load.{Load}
 use Rattle.feeder.specs.declared.LoadKind.the-variants.{Power}
 use Rattle.feeder.specs.declared.Phase.the-variants.{A}
 use Rattle.feeder.specs.declared.Phases.{Phases}

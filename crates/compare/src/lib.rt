@@ -4,7 +4,6 @@ ghost use mathlib.Core.Path.{_≡_};
 ghost use mathlib.Core.Bool.{_&&_, cond, true};
 ghost use mathlib.Core.List.{List, _∷_, map};
 ghost use Prim.Native.Nat.{ℕ, _+_, _<_, _≤_};
-ghost use lib.ListN.{getD};
 ghost use Rattle.integers.specs.Lists.{all, count};
 ghost use Rattle.integers.specs.Pairs.{0c, same};
 ghost use Rattle.feeder.specs.Feeder.{Feeder, rowCount, rowsOf};

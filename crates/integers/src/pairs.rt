@@ -1,6 +1,6 @@
 // Pairs (re, im) of voltages, currents, impedances and powers. Each contract says the value alone: the sizes are laws of the definitions.
 ghost use mathlib.Core.Path.{_≡_};
-ghost use Prim.Native.Nat.{_<_, _≤_, _^_};
+ghost use Prim.Native.Nat.{_<_, _^_};
 ghost use Rattle.integers.specs.Pairs.{_+c_, _-c_, _·c_, _·*_, scaled, rndPair, square, within, close};
 ghost use Rattle.integers.specs.PairLaws.{Within, Room};
 use crate::Pair;

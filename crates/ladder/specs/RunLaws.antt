@@ -8,7 +8,7 @@ use lib.ListN.{getD, length, replicate}
 use Rattle.answers.specs.Answers.{Outcome, _>>_, good, refuseIf, refused}
 use Rattle.answers.specs.declared.Refusal.{Refusal}
 use Rattle.answers.specs.declared.Refusal.the-variants.{CurrentBeyond, LoadBeyond, NotSettled, VoltageBeyond, ZeroVoltage}
-use Rattle.equations.specs.Equations.{at, currentBeyond, currents, drawnPower, loadBeyond, voltageBeyond, voltages, zero3, zeroVoltage}
+use Rattle.equations.specs.Equations.{at, currentBeyond, currents, loadBeyond, voltageBeyond, voltages, zero3, zeroVoltage}
 use Rattle.equations.specs.Sizes.{Within3}
 use Rattle.feeder.specs.Feeder.{Feeder, abc, rowCount, rowsOf}
 use Rattle.feeder.specs.Network.{kept}
@@ -19,7 +19,7 @@ use Rattle.integers.specs.Lists.{all, count}
 use Rattle.integers.specs.Pairs.{close}
 use Rattle.ladder.specs.Ladder.{Solution, settled, solution, sweep}
 use Rattle.ladder.specs.LadderLaws.{sweep-step}
-use Rattle.ladder.specs.Runs.{GoodRun, SmallRun, SmallSwept, SolvedAs, SweptIs, stepAt, stepOf, stillAt}
+use Rattle.ladder.specs.Runs.{SmallRun, SmallSwept, SolvedAs, SweptIs, stepAt, stepOf, stillAt}
 use Rattle.ladder.specs.declared.Run.{Run}
 use Rattle.ladder.specs.declared.Solving.the-variants.{Solved, Unsolved}
 use Rattle.ladder.specs.declared.Step.{Step}
@@ -29,7 +29,6 @@ use Rattle.passes.specs.Passes.{DownwardIs}
 use Rattle.passes.specs.Same.{Same, currents-same, drawn-same, load-beyond-same, same-kept, voltages-same, zero-voltage-same}
 use Rattle.passes.specs.declared.Pass.{Pass}
 use Rattle.sweeps.specs.Sweeps.{SmallCurrents, WorkedIs, workOf}
-use Rattle.sweeps.specs.declared.Work.{Work}
 use Rattle.sweeps.specs.declared.Worked.{Worked}
 use Rattle.sweeps.specs.declared.Work.the-variants.{CurrentBeyond as CurrentWork, Fine, LoadBeyond as LoadWork, ZeroVoltage as ZeroWork}
 

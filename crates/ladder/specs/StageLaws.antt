@@ -1,5 +1,5 @@
 -- A stage that refuses, and the report of a solution over the arrays. Assumes nothing.
-use mathlib.Core.Bool.{Bool, false, true}
+use mathlib.Core.Bool.{false, true}
 use mathlib.Core.List.{List, _++_, _∷_, map}
 use mathlib.Core.Path.{_∙_, _≡_, ap, refl, sym}
 use Prim.Native.Nat.{_+_, _<_, _≤_, suc, zero, ℕ}
@@ -9,22 +9,22 @@ use lib.ListN.{drop, getD, length, length-map}
 use Rattle.answers.specs.Answers.{Outcome, _>>=_, good, refused}
 use Rattle.answers.specs.declared.Refusal.{Refusal}
 use Rattle.answers.specs.declared.Refusal.the-variants.{BufferShort}
-use Rattle.equations.specs.Equations.{drawnPower, lossOf, power, sourcePower, zero3}
+use Rattle.equations.specs.Equations.{lossOf, power, sourcePower, zero3}
 use Rattle.equations.specs.Fit.{fit}
 use Rattle.feeder.specs.Feeder.{Feeder, branchAt, noBranch, parent, reading, rowCount, rowsOf}
-use Rattle.feeder.specs.Network.{Held, kept}
+use Rattle.feeder.specs.Network.{Held}
 use Rattle.feeder.specs.NetworkLaws.{getD-kept}
 use Rattle.feeder.specs.declared.Network.{Network}
 use Rattle.feeder.specs.declared.Three.{Three}
 use Rattle.integers.specs.ListLaws.{getD-map, getD-tab, length-tab}
-use Rattle.integers.specs.Lists.{count, tab}
+use Rattle.integers.specs.Lists.{count}
 use Rattle.integers.specs.Pairs.{0c}
 use Rattle.integers.specs.declared.Pair.{Pair}
 use Rattle.ladder.specs.Ladder.{Solution, solution}
 use Rattle.ladder.specs.Runs.{GoodRun, SolvedAs}
 use Rattle.ladder.specs.RunLaws.{same-array}
 use Rattle.ladder.specs.Stages.{StudyAs, fitted-is, fittedFrom, fittedWith, study-same, textOf}
-use Rattle.ladder.specs.Study.{Report, bufferOf, fitted, studyOf}
+use Rattle.ladder.specs.Study.{bufferOf, studyOf}
 use Rattle.ladder.specs.declared.Run.{Run}
 use Rattle.ladder.specs.declared.Solving.{Solving}
 use Rattle.ladder.specs.declared.Solving.the-variants.{Solved, Unsolved}

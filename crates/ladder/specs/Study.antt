@@ -10,7 +10,6 @@ use Rattle.ladder.specs.Ladder.{solution}
 use Rattle.ladder.specs.declared.Study.{Study}
 use Rattle.ladder.specs.declared.Study.the-variants.{NoReport, Written}
 use Rattle.report.specs.Report.{reportText}
-use Rattle.text.specs.Lines.{text}
 
 -- a report's text, and "the number of sweeps made"
 pub record Report : Type 0 where

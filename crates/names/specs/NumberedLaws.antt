@@ -15,6 +15,7 @@ use Rattle.feeder.specs.Feeder.{allOf, branchAt, branchOf, deviceOf, feederOf, 
 use Rattle.feeder.specs.Layout.{Rows}
 use Rattle.feeder.specs.Network.{kept, noLoad}
 use Rattle.feeder.specs.NetworkLaws.{getD-kept, take-kept}
+use Rattle.feeder.specs.RowLaws.{none-bad}
 use Rattle.feeder.specs.declared.Branch.{Branch}
 use Rattle.feeder.specs.declared.Kind.{Kind}
 use Rattle.feeder.specs.declared.Kind.the-variants.{D, L, R, Y}
@@ -24,7 +25,7 @@ use Rattle.feeder.specs.declared.Phase.the-variants.{A, B, C}
 use Rattle.feeder.specs.declared.Phases.{Phases}
 use Rattle.integers.specs.Lists.{all}
 use Rattle.names.specs.Numbered.{branchAbsent, branchesIn, fromUnknown, loadAbsent, loadsIn, nodesIn, phasesIn, threePhaseOf, toSecond}
-use Rattle.names.specs.Rest.{first-image, first-none, rest}
+use Rattle.names.specs.Rest.{first-image, rest}
 
 -- a transformer is known by its kind and by its device
 threes : (k : Kind) (p : List ℤ) (f : Phases) → threePhaseOf (deviceOf k p) f ≡ threePhase k f
@@ -135,7 +136,7 @@ module _ (r : Rows) (count : ℕ) (size : count ≡ length (r .branches)) where
         go zero = omega arith
         go (suc k) =
             elim (decLt k count) [
-              | yes h ↦ ltb-false count _ (first-none (λ b. ltb count (b .from)) 4 1 noBranch (feederOf r .branches) (unknown-rows ∙ e) k (rw length-branches h))
+              | yes h ↦ ltb-false count _ (none-bad (λ j b. ltb count (b .from)) 4 1 (feederOf r .branches) noBranch (unknown-rows ∙ e) k (rw length-branches h))
               | no h ↦ rw (List·getD-eq-default (feederOf r .branches) noBranch {n = k} (rw length-branches (omega arith))) (omega arith)
             ]
 

@@ -1,5 +1,5 @@
 -- A list as a loop passes over it: what is left from a place on, the first line with a fault, and an array that is filled. Assumes nothing.
-use mathlib.Core.Bool.{Bool, cond, false, true}
+use mathlib.Core.Bool.{Bool, false, true}
 use mathlib.Core.List.{List, [], _++_, _∷_, append-assoc, map, map-append}
 use mathlib.Core.Path.{_≡_, ap, refl, sym}
 use Prim.Native.Nat.{_+_, _<_, _≤_, suc, zero, ℕ}
@@ -8,7 +8,6 @@ use native.Mathlib.Omega.{arith}
 use lib.ListN.{drop, drop-of-length-le, getD, length, length-append, length-map, replicate, set, take}
 use lib.Seq.{drop-cons, getD-take, length-take-le, take-suc}
 use borrow.Author.Tests.{eq-eqb, ne-eqb}
-use Rattle.answers.specs.declared.Found.{Found}
 use Rattle.answers.specs.declared.Found.the-variants.{At, Nothing}
 use Rattle.feeder.specs.Feeder.{firstRow, placeOf}
 use Rattle.feeder.specs.Network.{kept}
@@ -46,18 +45,6 @@ pub first-image : {X Y : Type 0} (bad : ℕ → X → Bool) (worse : ℕ → Y �
 unfolding firstRow
 first-image bad worse f before k [] e = refl
 first-image bad worse f before k (x ∷ l) e = rw (e k x, first-image bad worse f before (k + 1) l e)
-
-passed : (b : Bool) (n : ℕ) (x : Found) → cond b (At n) x ≡ Nothing → (b ≡ false) × (x ≡ Nothing)
-passed true n x e = let z : _≡_ {A = ℕ} 0 1 = cc in absurd (omega arith)
-passed false n x e = (refl, e)
-
--- where no line has the fault, no row has
-pub first-none : {X : Type 0} (bad : X → Bool) (before k : ℕ) (d : X) (l : List X) → firstRow (λ j x. bad x) before k l ≡ Nothing →
-    (i : ℕ) → i < length l → bad (getD l i d) ≡ false
-unfolding firstRow
-first-none bad before k d [] e i h = absurd (omega arith)
-first-none bad before k d (x ∷ l) e zero h = passed (bad x) (before + k) _ e .0
-first-none bad before k d (x ∷ l) e (suc i) h = first-none bad before (k + 1) d l (passed (bad x) (before + k) _ e .1) i (omega arith)
 
 -- ---- a name's place
 module _ (name : ℕ) (l : List ℕ) (n i : ℕ) (q : n ≤ length l) where

@@ -1,5 +1,4 @@
 // Refusals 20, 21 and 23: the first line with each fault, by node numbers. Branch row k stands in line 4 + k.
-ghost use mathlib.Core.List.{_∷_};
 ghost use mathlib.Core.Path.{_≡_};
 ghost use Prim.Native.Nat.{ℕ, _+_, _<_, _≤_};
 ghost use mathlib.Core.Bool.{cond, true};

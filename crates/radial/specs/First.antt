@@ -1,5 +1,5 @@
 -- The first line with a fault, where the fault is a test of the row's number, and refusal 22 by the order of work. Assumes nothing.
-use mathlib.Core.Bool.{Bool, cond, false, true}
+use mathlib.Core.Bool.{Bool, false, true}
 use mathlib.Core.List.{List, [], _∷_}
 use mathlib.Core.Path.{_∙_, _≡_, ap, refl}
 use Prim.Native.Nat.{_+_, _<_, _≤_, suc, zero, ℕ}
@@ -7,10 +7,10 @@ use native.Mathlib.Decide.{ℕ-discrete}
 use native.Mathlib.Omega.{arith}
 use lib.ListN.{getD, length, length-map}
 use borrow.Author.Tests.{eq-eqb, ne-eqb}
-use Rattle.answers.specs.declared.Found.{Found}
 use Rattle.answers.specs.declared.Found.the-variants.{At, Nothing}
 use Rattle.feeder.specs.Feeder.{above, branchOf, feederOf, firstRow, nodesOf, notReached, parent}
 use Rattle.feeder.specs.Layout.{Rows}
+use Rattle.feeder.specs.RowLaws.{none-bad, none-found}
 use Rattle.feeder.specs.declared.Branch.{Branch}
 use Rattle.integers.specs.Lists.{count, tab}
 use Rattle.radial.specs.Counting.{all-ranked}
@@ -27,10 +27,6 @@ first-same p q before k [] (y ∷ m) e h = absurd (omega arith)
 first-same p q before k (x ∷ l) [] e h = absurd (omega arith)
 first-same p q before k (x ∷ l) (y ∷ m) e h = rw (e k, first-same p q before (k + 1) l m e (omega arith))
 
-rest : (b : Bool) (n : ℕ) (x : Found) → cond b (At n) x ≡ Nothing → (b ≡ false) × (x ≡ Nothing)
-rest true n x e = let z : _≡_ {A = ℕ} 0 1 = cc in absurd (omega arith)
-rest false n x e = (refl, e)
-
 module _ {X : Type 0} (bad : ℕ → Bool) (before : ℕ) where
   -- the first row that has the fault
   pub first-at : (k i : ℕ) (l : List X) → k ≤ i → i < k + length l → ((j : ℕ) → k ≤ j → j < i → bad j ≡ false) → bad i ≡ true →
@@ -43,24 +39,6 @@ module _ {X : Type 0} (bad : ℕ → Bool) (before : ℕ) where
         | no n ↦
             rw (none k (omega arith) (omega arith))
             (first-at (k + 1) i l (omega arith) (omega arith) (λ j p q. none j (omega arith) q) here)
-      ]
-
-  -- no row has it, and back
-  pub first-none : (k : ℕ) (l : List X) → ((j : ℕ) → k ≤ j → j < k + length l → bad j ≡ false) → firstRow (λ j x. bad j) before k l ≡ Nothing
-  unfolding firstRow
-  first-none k [] none = refl
-  first-none k (x ∷ l) none =
-      rw (none k (omega arith) (omega arith))
-      (first-none (k + 1) l (λ j p q. none j (omega arith) (omega arith)))
-
-  pub none-first : (k : ℕ) (l : List X) → firstRow (λ j x. bad j) before k l ≡ Nothing → (j : ℕ) → k ≤ j → j < k + length l → bad j ≡ false
-  unfolding firstRow
-  none-first k [] e j p q = absurd (omega arith)
-  none-first k (x ∷ l) e j p q =
-      let t = rest (bad k) (before + k) _ e in
-      elim (ℕ-discrete j k) [
-        | yes s ↦ rw s (t .0)
-        | no n ↦ none-first (k + 1) l (t .1) j (omega arith) (omega arith)
       ]
 
 count-size : (k n : ℕ) → length (count k n) ≡ n
@@ -105,7 +83,7 @@ module _ (bs : List Branch) (rows : ℕ) (o : Order) (w : InOrder bs rows o) whe
 
   pub none-unranked : ((j : ℕ) → j < rows + 1 → 0 < j → 0 < getD (o .rank) j 0) → firstLost bs rows ≡ Nothing
   none-unranked all =
-      first-none (lost bs rows) 4 1 (count 1 rows) (λ j p q. ranked-not-lost j (all j (let z = rw count-size at q in omega arith) p))
+      none-found (λ j x. lost bs rows j) 4 1 (count 1 rows) (λ i d q. ranked-not-lost (1 + i) (all (1 + i) (let z = rw count-size at q in omega arith) (omega arith)))
 
   -- where no row has the fault, every node has a place
   pub all-placed : firstLost bs rows ≡ Nothing → Whole rows o
@@ -117,4 +95,6 @@ module _ (bs : List Branch) (rows : ℕ) (o : Order) (w : InOrder bs rows o) whe
     where
       every : (i : ℕ) → i < rows + 1 → 0 < getD (o .rank) i 0
       every zero h = let s = w .placed .ordered .source in omega arith
-      every (suc i) h = some (suc i) h (none-first (lost bs rows) 4 1 (count 1 rows) e (suc i) (omega arith) (rw count-size (omega arith)))
+      every (suc i) h =
+          let z : 1 + i ≡ suc i = omega arith in
+          some (suc i) h (rw z at (none-bad (λ j x. lost bs rows j) 4 1 (count 1 rows) 0 e i (rw count-size (omega arith))))

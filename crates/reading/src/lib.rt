@@ -35,7 +35,7 @@ ghost use Prim.Native.Nat.{ℕ, _+_, _≤_};
 ghost use lib.ListN.{length, getD};
 ghost use Rattle.feeder.specs.Feeder.{noBranch, pairAt, threeAt, feederOf, outOfLimit, reading};
 ghost use Rattle.feeder.specs.Layout.{Rows};
-ghost use Rattle.feeder.specs.Network.{Held, kept, noBranchRow, noLoadRow};
+ghost use Rattle.feeder.specs.Network.{Held};
 ghost use Rattle.names.specs.Numbered.{nodesIn, branchesIn, loadsIn};
 ghost use Rattle.radial.specs.Radial.{InOrder, Whole};
 ghost use Rattle.reading.specs.Reading.{Arranged, ReadAs, RowsIn, Stored};

@@ -1,5 +1,4 @@
 // The last table: one row, at the end of the report.
-ghost use mathlib.Core.Path.{_≡_};
 ghost use Rattle.report.specs.Report.{lastRow};
 ghost use Rattle.report_reader.specs.Read.{TotalsAre};
 use text::lines::Next;

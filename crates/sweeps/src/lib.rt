@@ -1,5 +1,4 @@
 // The two halves of a sweep over a feeder in memory: currents from voltages, and voltages from currents. The study and the check share them.
-ghost use mathlib.Core.Path.{_≡_};
 ghost use Prim.Native.Nat.{ℕ, _+_, _<_};
 ghost use lib.ListN.{getD};
 ghost use Rattle.feeder.specs.Feeder.{Feeder};

@@ -1,6 +1,4 @@
 use Rattle.ladder.specs.RunLaws.{same-zeros}
-use borrow.Author.Needs.{needs}
-use native.Mathlib.Omega.{arith}
 use Rattle.ladder.proofs.no_currents.Statement.{statement}
 use Rattle.ladder.proofs.no_currents.Tie as tie
 use Rattle.ladder.proofs.no_currents.Reads as reads

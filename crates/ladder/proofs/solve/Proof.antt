@@ -1,6 +1,6 @@
 -- `solve` meets its contract: before sweep k the rest of the run is the run. Assumes nothing.
-use mathlib.Core.Path.{_≡_, ap, refl, sym, _∙_}
-use Prim.Native.Nat.{ℕ, _+_, _-_, _<_, _≤_}
+use mathlib.Core.Path.{ap, refl}
+use Prim.Native.Nat.{ℕ, _+_, _-_, _≤_}
 use lib.ListN.{getD}
 use borrow.Author.Tests.{not-true, not-false}
 use Rattle.answers.specs.declared.Refusal.the-variants.{NotSettled}

@@ -4,7 +4,7 @@ use native.Mathlib.Decide.{decLt}
 use borrow.Author.Tests.{not-true, not-false}
 use Rattle.equations.specs.Sizes.{within3-more}
 use Rattle.integers.specs.ListLaws.{true-count}
-use mathlib.Core.Path.{_≡_, ap, sym, _∙_}
+use mathlib.Core.Path.{_≡_, sym, _∙_}
 use Prim.Native.Nat.{ℕ, _+_, _-_, _<_, _≤_}
 use Rattle.ladder.specs.Runs.{stillAt}
 use Rattle.ladder.specs.RunLaws.{one-moved}

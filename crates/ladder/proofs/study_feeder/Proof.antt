@@ -1,8 +1,7 @@
 -- `study_feeder` meets its contract: a file that is refused, and the study of the feeder that it holds. Assumes nothing.
-use mathlib.Core.Path.{_≡_, refl}
+use mathlib.Core.Path.{refl}
 use Rattle.feeder.specs.Feeder.{reading}
 use Rattle.ladder.specs.StageLaws.{read-good, read-refused, study-whole, whole-read, whole-refused}
-use native.Mathlib.Omega.{arith}
 use borrow.Author.Needs.{needs}
 use Rattle.ladder.proofs.study_feeder.Statement.{statement}
 use Rattle.ladder.proofs.study_feeder.Tie as tie

@@ -1,7 +1,6 @@
 -- `study_network` meets its contract: a feeder that is not solved is refused, and a solution is written. Assumes nothing.
-use mathlib.Core.Path.{_≡_, refl}
+use mathlib.Core.Path.{refl}
 use Rattle.ladder.specs.StageLaws.{from-refused, from-solved, run-good, run-refused}
-use native.Mathlib.Omega.{arith}
 use borrow.Author.Needs.{needs}
 use Rattle.ladder.proofs.study_network.Statement.{statement}
 use Rattle.ladder.proofs.study_network.Tie as tie

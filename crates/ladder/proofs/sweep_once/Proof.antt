@@ -6,7 +6,6 @@ use Rattle.feeder.specs.Feeder.{Feeder}
 use Rattle.feeder.specs.Network.{Held}
 use Rattle.ladder.specs.Ladder.{settled}
 use Rattle.ladder.specs.RunLaws.{same-next, settled-is, small-again, small-settled, small-stopped, swept-again, swept-current, swept-high, swept-load, swept-settled, swept-zero}
-use native.Mathlib.Omega.{arith}
 use borrow.Author.Needs.{needs}
 use Rattle.ladder.proofs.sweep_once.Statement.{statement}
 use Rattle.ladder.proofs.sweep_once.Tie as tie

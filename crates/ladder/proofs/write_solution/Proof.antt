@@ -1,5 +1,5 @@
 -- `write_solution` meets its contract: the arrays show the feeder with its solution. Assumes nothing.
-use mathlib.Core.Path.{_≡_, ap, refl, sym, _∙_}
+use mathlib.Core.Path.{_≡_, ap, refl, _∙_}
 use Rattle.equations.specs.Sizes.{within3-more}
 use Prim.Native.Nat.{ℕ}
 use lib.ListN.{drop, length}

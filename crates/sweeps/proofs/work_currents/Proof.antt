@@ -7,7 +7,6 @@ use Rattle.feeder.specs.Feeder.{Feeder}
 use Rattle.feeder.specs.Network.{Held}
 use Rattle.passes.specs.Passes.{UpwardIs}
 use Rattle.sweeps.specs.SweepsLaws.{in-arrays, loads-ok, no-current, no-load, no-zero, own-at, own-behind, ready, worked-dead, worked-fine, worked-large, worked-over}
-use native.Mathlib.Omega.{arith}
 use borrow.Author.Needs.{needs}
 use Rattle.sweeps.proofs.work_currents.Statement.{statement}
 use Rattle.sweeps.proofs.work_currents.Tie as tie

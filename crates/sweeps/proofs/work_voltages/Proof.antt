@@ -1,7 +1,5 @@
 -- `work_voltages` meets its contract: the pass downward over the arrays of the feeder. Assumes nothing.
 use Rattle.sweeps.specs.SweepsLaws.{in-arrays, ready, source-fits}
-use borrow.Author.Needs.{needs}
-use native.Mathlib.Omega.{arith}
 use Rattle.sweeps.proofs.work_voltages.Statement.{statement}
 use Rattle.sweeps.proofs.work_voltages.Tie as tie
 use Rattle.sweeps.proofs.work_voltages.Reads as reads
