@@ -1,6 +1,7 @@
 // The order of work of a radial feeder: each node after the one that feeds it. specs/Radial.antt says what an order is, Reach.antt and First.antt what it tells.
 ghost use mathlib.Core.Path.{_≡_};
-ghost use Rattle.radial.specs.Radial.{InOrder, Linked, Passed, Placed, firstLost};
+ghost use Prim.Native.Nat.{_+_, _<_, ℕ};
+ghost use Rattle.radial.specs.Radial.{InOrder, Linked, Passed, PlacedBy, Stepped, firstLost, fromIn, made, parentIn};
 use answers::Found;
 use feeder::Branch;
 
@@ -12,24 +13,101 @@ pub struct Order {
     pub rank: [usize; 201],
 }
 
+// The from-node of each row. They are taken out once, since an array of numbers can be lent, and the branches would be copied at each call.
+fn from_nodes(branches: [Branch; 201]) -> [usize; 201]
+    ensures { λ r. ⌜ ((k : ℕ) → fromIn r k ≡ parentIn branches k) ⌝ }
+{
+    let mut from = [0usize; 201];
+    let mut k = 0;
+    while k < 201 {
+        from[k] = branches[k].from;
+        k += 1;
+    }
+    from
+}
+
+// Node k gets the next place, where it has none and its from-node has one. The answer is how many nodes are placed; the rows stand in the promise only.
+fn place(
+    from: &[usize; 201],
+    rows: usize,
+    k: usize,
+    len: usize,
+    order: &mut [usize; 201],
+    rank: &mut [usize; 201],
+) -> usize
+    requires { ⌜ k < rows + 1 ⌝ }
+    requires { ⌜ PlacedBy (fromIn (now from)) rows (made len (now order) (now rank)) ⌝ }
+    ensures { λ r. ⌜ Stepped (fromIn (now (from .entry))) rows k (made len (now (order .entry)) (now (rank .entry))) (made r (now (order .exit)) (now (rank .exit))) ⌝ }
+{
+    if rank[k] != 0 {
+        return len;
+    }
+    let above = from[k];
+    if rank[above] == 0 {
+        return len;
+    }
+    order[len] = k;
+    rank[k] = len + 1;
+    len + 1
+}
+
+// Places a node, and before it the nodes above it that have no place. The way up is left after `steps` nodes, since it has no end where the rows make a circle.
+fn place_with_above(
+    from: &[usize; 201],
+    rows: usize,
+    steps: usize,
+    node: usize,
+    len: usize,
+    order: &mut [usize; 201],
+    rank: &mut [usize; 201],
+) -> usize
+    requires { ⌜ node < rows + 1 ⌝ }
+    requires { ⌜ PlacedBy (fromIn (now from)) rows (made len (now order) (now rank)) ⌝ }
+    ensures { λ r. ⌜ PlacedBy (fromIn (now (from .entry))) rows (made r (now (order .exit)) (now (rank .exit))) ⌝ }
+{
+    if steps == 0 {
+        return len;
+    }
+    if rank[node] != 0 {
+        return len;
+    }
+    let above = from[node];
+    let before = place_with_above(from, rows, steps - 1, above, len, order, rank);
+    place(from, rows, node, before, order, rank)
+}
+
+// Every node with those above it. A node that the source reaches is placed once and not met again on a way up, so the time grows with the number of rows,
+// in whatever order they stand.
+fn climb(from: &[usize; 201], rows: usize, before: Order) -> Order
+    requires { ⌜ PlacedBy (fromIn (now from)) rows before ⌝ }
+    ensures { λ r. ⌜ PlacedBy (fromIn (now (from .entry))) rows r ⌝ }
+{
+    let mut len = before.len;
+    let mut order = before.order;
+    let mut rank = before.rank;
+    let mut node = 1;
+    while node <= rows {
+        len = place_with_above(from, rows, rows, node, len, &mut order, &mut rank);
+        node += 1;
+    }
+    Order {
+        len: len,
+        order: order,
+        rank: rank,
+    }
+}
+
 // One pass over the rows: each that has no place yet, and whose from-node has one, gets the next.
-fn pass(branches: [Branch; 201], rows: usize, before: Order) -> Order
-    requires { ⌜ Placed branches rows before ⌝ }
-    ensures { λ r. ⌜ Passed branches rows before r ⌝ }
+fn pass(from: &[usize; 201], rows: usize, before: Order) -> Order
+    requires { ⌜ PlacedBy (fromIn (now from)) rows before ⌝ }
+    ensures { λ r. ⌜ Passed (fromIn (now (from .entry))) rows before r ⌝ }
 {
     let mut len = before.len;
     let mut order = before.order;
     let mut rank = before.rank;
     let mut k = 1;
     while k <= rows {
-        if rank[k] == 0 {
-            let from = branches[k].from;
-            if rank[from] != 0 {
-                order[len] = k;
-                rank[k] = len + 1;
-                len += 1;
-            }
-        }
+        len = place(from, rows, k, len, &mut order, &mut rank);
         k += 1;
     }
     Order {
@@ -39,21 +117,24 @@ fn pass(branches: [Branch; 201], rows: usize, before: Order) -> Order
     }
 }
 
-// Passes over the rows, until all are placed or a pass places none.
+// The climb, and passes over the rows until all are placed or a pass places none. The climb leaves a row only where the source does not reach it, and the
+// pass behind it then shows that there is none to place.
 pub fn order_of(branches: [Branch; 201], rows: usize) -> Order
     requires { ⌜ Linked branches rows ⌝ }
     ensures { λ r. ⌜ InOrder branches rows r ⌝ }
 {
+    let from = from_nodes(branches);
     let order = [0usize; 201];
     let mut rank = [0usize; 201];
     rank[0] = 1;
-    let mut now = Order {
+    let source = Order {
         len: 1,
         order: order,
         rank: rank,
     };
+    let mut now = climb(&from, rows, source);
     while now.len <= rows {
-        let next = pass(branches, rows, now);
+        let next = pass(&from, rows, now);
         if next.len == now.len {
             return next;
         }
