@@ -1,11 +1,11 @@
--- Texts written into a buffer: one behind the other, byte by byte, and into a lent rest of it. Assumes nothing.
+-- Texts written into a buffer: one behind the other, byte by byte from either end, and into a lent rest of it. Assumes nothing.
 use mathlib.Core.Path.{_≡_, refl, sym, ap, _∙_}
 use mathlib.Core.List.{List, [], _∷_, _++_, append-nil}
 use Prim.Native.Nat.{ℕ, zero, suc, _+_, _-_, _≤_, _<_}
 use native.Mathlib.Omega.{arith}
 use native.Mathlib.Nat.{add-zero, add-assoc, not-suc-le-zero, le-of-suc-le-suc}
-use lib.ListN.{length, getD, set, take, drop, length-append, length-drop, drop-of-length-le}
-use lib.Seq.{sets, length-sets, sets-eq}
+use lib.ListN.{length, getD, set, take, drop, length-append, length-set, length-drop, drop-of-length-le}
+use lib.Seq.{sets, set-comm, length-sets, sets-eq}
 use borrow.Rule.Slice.PartMut.{midOf, putMid}
 use Rattle.text.specs.Promises.{Written}
 use Rattle.text.specs.TextLaws.{drop-next, part-from}
@@ -42,6 +42,32 @@ pub sets-next : (l : List ℕ) (i : ℕ) (vs : List ℕ) (k : ℕ) → k < lengt
 sets-next l i vs k h =
     let e : i + (k + 1) ≡ suc (i + k) = omega arith in
     simp (drop-next vs k h, e)
+
+-- the last byte of a text, and then those in front of it
+sets-last : (l : List ℕ) (i : ℕ) (vs : List ℕ) (x : ℕ) → sets l i (vs ++ (x ∷ [])) ≡ sets (set l (i + length vs) x) i vs
+sets-last l i [] x = simp add-zero
+sets-last l i (v ∷ vs) x =
+    let e : suc i + length vs ≡ i + suc (length vs) = omega arith in
+    sets-last (set l i v) (suc i) vs x
+    ∙ ap (λ (k : List ℕ). sets k (suc i) vs) (set-comm l i (suc i + length vs) v x (λ q. omega arith) ∙ ap (λ (j : ℕ). set (set l j x) i v) e)
+
+-- a writer that begins with the last byte of vs: l is what it has made of out, front what is left to write, and i the place behind that
+pub record Unwritten (out : List ℕ) (at : ℕ) (vs : List ℕ) (i : ℕ) (front l : List ℕ) : Type 0 where
+  pub ends : i ≡ at + length front
+  pub room : i ≤ length l
+  pub same : length l ≡ length out
+  pub left : sets out at vs ≡ sets l at front
+
+pub unwritten-last : {out : List ℕ} {at : ℕ} {vs : List ℕ} {i : ℕ} (front : List ℕ) (x : ℕ) {l : List ℕ} →
+    Unwritten out at vs i (front ++ (x ∷ [])) l → Unwritten out at vs (i - 1) front (set l (i - 1) x)
+unwritten-last {out} {at} {vs} {i} front x {l} u =
+    let e : i - 1 ≡ at + length front = omega (arith, simp length-append at (u .ends)) in
+    record {
+      ends = e;
+      room = simp length-set (omega (arith, u .room));
+      same = simp length-set (u .same);
+      left = u .left ∙ sets-last l at front x ∙ ap (λ (k : ℕ). sets (set l k x) at front) (sym e);
+    }
 
 sets-cons : (x : ℕ) (l : List ℕ) (i : ℕ) (vs : List ℕ) → sets (x ∷ l) (suc i) vs ≡ x ∷ sets l i vs
 sets-cons x l i [] = refl

@@ -1,12 +1,12 @@
 -- How the definitions of Text go on: a reading with the byte at its place and at the end of the text, a writing with the last digit or letter.
 -- Assumes nothing.
-use mathlib.Core.Path.{_≡_, refl, _∙_}
+use mathlib.Core.Path.{_≡_, refl, sym, ap, _∙_}
 use mathlib.Core.Bool.{Bool, true, false, cond, _&&_}
 use mathlib.Core.List.{List, [], _∷_, _++_}
-use Prim.Native.Nat.{ℕ, zero, suc, _+_, _-_, _*_, _/_, _%_, _≤_, _<_}
+use Prim.Native.Nat.{ℕ, zero, suc, _+_, _-_, _*_, _/_, _%_, _^_, _≤_, _<_}
 use native.Mathlib.Omega.{arith}
 use native.Mathlib.Numerals.{add-one}
-use native.Mathlib.Nat.{not-suc-le-zero, mod-eq-of-lt}
+use native.Mathlib.Nat.{not-suc-le-zero, mod-eq-of-lt, pow-suc}
 use lib.Dec.{ltb, eqb}
 use lib.IntN.{ℤ, pos, negsuc, natAbs}
 use lib.Signed.{ltZ}
@@ -116,6 +116,17 @@ digits-fit (suc f) n =
     elim [ true ↦ omega arith | false ↦ simp length-append (omega (arith, digits-fit f (n / 10))) ] in
     h (ltb n 10)
 
+-- no place is left over that a number could fill: one place more changes nothing
+digits-enough : (f n : ℕ) → n < 10 ^ suc f → digits (suc (suc f)) n ≡ digits (suc f) n
+unfolding digits
+digits-enough zero n h = simp (lt-ltb n 10 h)
+digits-enough (suc f) n h = ap (λ (l : List ℕ). cond (ltb n 10) [] l ++ ((48 + n % 10) ∷ [])) (digits-enough f (n / 10) (omega (arith, pow-suc 10 (suc f))))
+
+-- so a number of 64 bits has the digits of its tenth, and the last
+pub digits-front : (n : ℕ) → 10 ≤ n → n < 18446744073709551616 → digits 20 n ≡ digits 20 (n / 10) ++ ((48 + n % 10) ∷ [])
+digits-front n h k =
+    digits-more 20 n (omega arith) h ∙ ap (λ (l : List ℕ). l ++ ((48 + n % 10) ∷ [])) (sym (digits-enough 18 (n / 10) (omega arith)))
+
 pub decimal-natural : (n : ℕ) → decimal (pos n) ≡ digits 20 n
 unfolding decimal
 decimal-natural n = simp (le-ltb n 0 (omega arith))
@@ -158,3 +169,12 @@ letters-fit (suc f) v =
     let h : (t : Bool) → length (cond {A = List ℕ} t [] (letters f (v / 256) ++ (v % 256 ∷ []))) ≤ suc f =
     elim [ true ↦ omega arith | false ↦ simp length-append (omega (arith, letters-fit f (v / 256))) ] in
     h (eqb v 0)
+
+letters-enough : (f v : ℕ) → v < 256 ^ f → letters (suc f) v ≡ letters f v
+unfolding letters
+letters-enough zero v h = let e : v ≡ 0 = omega arith in simp e
+letters-enough (suc f) v h = ap (λ (l : List ℕ). cond (eqb v 0) [] (l ++ (v % 256 ∷ []))) (letters-enough f (v / 256) (omega (arith, pow-suc 256 f)))
+
+pub letters-front : (v : ℕ) → (v ≡ 0 → ⊥) → v < 18446744073709551616 → letters 8 v ≡ letters 8 (v / 256) ++ (v % 256 ∷ [])
+letters-front v h k =
+    letters-more 8 v (omega arith) h ∙ ap (λ (l : List ℕ). l ++ (v % 256 ∷ [])) (sym (letters-enough 7 (v / 256) (omega arith)))

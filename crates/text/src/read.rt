@@ -78,14 +78,17 @@ pub fn read_number(s: &[u8], at: usize, sep: u8) -> Field
     Field::Number(whole::sub(0, z), next)
 }
 
-// Whether b is one of A to Z and 0 to 9.
+// Whether b is one of 0 to 9 and A to Z: these lie between 48 and 90, with seven others between them.
 fn is_letter(b: u8) -> bool
     ensures { λ r. ⌜ r ≡ letter b ⌝ }
 {
-    if b < 58 {
-        return 48 <= b;
+    if b < 48 {
+        return false;
     }
-    65 <= b && b <= 90
+    if 90 < b {
+        return false;
+    }
+    b < 58 || 64 < b
 }
 
 // The name v with the place behind it, where v has a letter.

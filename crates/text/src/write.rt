@@ -46,19 +46,21 @@ fn digits_width(n: u64, places: usize) -> usize
     digits_width(n / 10, places - 1) + 1
 }
 
-// The digits of n, at most places of them: those in front of the last first.
-fn put_digits(out: &mut [u8], at: usize, n: u64, places: usize) -> usize
-    requires { ⌜ at + length (digits places n) ≤ length (now out) ⌝ }
-    ensures { λ r. ⌜ Written (now (out .entry)) at (digits places n) r (now (out .exit)) ⌝ }
+// The digits of n, the last of them first: how many there are says where it stands.
+fn put_digits(out: &mut [u8], at: usize, n: u64) -> usize
+    requires { ⌜ at + length (digits 20 n) ≤ length (now out) ⌝ }
+    ensures { λ r. ⌜ Written (now (out .entry)) at (digits 20 n) r (now (out .exit)) ⌝ }
 {
-    if places == 0 {
-        return at;
+    let end = at + digits_width(n, 20);
+    let mut i = end;
+    let mut left = n;
+    while 10 <= left {
+        i -= 1;
+        out[i] = 48 + (left % 10) as u8;
+        left = left / 10;
     }
-    if n < 10 {
-        return put_byte(out, at, 48 + n as u8);
-    }
-    let last = put_digits(out, at, n / 10, places - 1);
-    put_byte(out, last, 48 + (n % 10) as u8)
+    out[at] = 48 + left as u8;
+    end
 }
 
 fn is_negative(z: i64) -> bool
@@ -84,9 +86,9 @@ pub fn put_number(out: &mut [u8], at: usize, z: i64) -> usize
     let n = whole::size(z);
     if is_negative(z) {
         out[at] = 45;
-        return put_digits(out, at + 1, n, 20);
+        return put_digits(out, at + 1, n);
     }
-    put_digits(out, at, n, 20)
+    put_digits(out, at, n)
 }
 
 // How many letters v has, at most places.
@@ -102,21 +104,6 @@ fn letters_width(v: u64, places: usize) -> usize
     letters_width(v / 256, places - 1) + 1
 }
 
-// The letters of v, at most places of them: those in front of the last first.
-fn put_letters(out: &mut [u8], at: usize, v: u64, places: usize) -> usize
-    requires { ⌜ at + length (letters places v) ≤ length (now out) ⌝ }
-    ensures { λ r. ⌜ Written (now (out .entry)) at (letters places v) r (now (out .exit)) ⌝ }
-{
-    if places == 0 {
-        return at;
-    }
-    if v == 0 {
-        return at;
-    }
-    let last = put_letters(out, at, v / 256, places - 1);
-    put_byte(out, last, (v % 256) as u8)
-}
-
 // How many bytes the name v takes.
 pub fn name_width(v: u64) -> usize
     ensures { λ r. ⌜ r ≡ length (letters 8 v) ⌝ }
@@ -124,10 +111,18 @@ pub fn name_width(v: u64) -> usize
     letters_width(v, 8)
 }
 
-// The name v, which has at most 8 letters.
+// The name v, which has at most 8 letters, the last of them first: how many there are says where it stands.
 pub fn put_name(out: &mut [u8], at: usize, v: u64) -> usize
     requires { ⌜ at + length (letters 8 v) ≤ length (now out) ⌝ }
     ensures { λ r. ⌜ Written (now (out .entry)) at (letters 8 v) r (now (out .exit)) ⌝ }
 {
-    put_letters(out, at, v, 8)
+    let end = at + name_width(v);
+    let mut i = end;
+    let mut left = v;
+    while left != 0 {
+        i -= 1;
+        out[i] = (left % 256) as u8;
+        left = left / 256;
+    }
+    end
 }
