@@ -1,9 +1,11 @@
 #!/usr/bin/env python3
 """figures.py STUDY: works the feeders of examples/ with the program STUDY (target/bin/study) and compares.
 
-Each report must be the one that stands beside its feeder, byte for byte, and come as near to the figures that the source documents
-print as their rounding allows: document 004 (four nodes: a line, a delta transformer and a line, without and with a regulator) and document
-000 (a line section, whole and reduced, fed from A and from B). One line for each figure; the last line says how many there are and how many are out, and the exit code is 1 if any is."""
+Each report must be the one that stands beside its feeder, byte for byte. The figures that the source documents print, document 004 (four
+nodes: a line, a delta transformer and a line, without and with a regulator) and document 000 (a line section, whole and reduced, fed from
+A and from B), are compared with it and come within the allowance beside each figure: 0.06 or 0.1 V on the 120 V base, 0.1 degrees, 0.3 A,
+0.001 pu, 4 kW, 5 kvar. One line for each figure; the last line says how many there are and how many are out, and the exit code is 1 if any
+is."""
 import cmath
 import math
 import pathlib
@@ -35,6 +37,9 @@ POWERS = {
     "reduced_from_a": (3584.1 + 544.8j, 3505.0 + 465.7j, 5014.0 + 2344.8j),
     "reduced_from_b": (3578.6 + 559.5j, 3508.3 + 465.9j, 5015.1 + 2338.0j),
 }
+
+if len(sys.argv) != 2:
+    sys.exit("usage: figures.py STUDY, with STUDY the study program, as target/bin/study")
 
 out = 0
 count = 0

@@ -1,7 +1,8 @@
 #!/usr/bin/env python3
 """Writes the trials that are made from test vectors, as theorems proved by computing, into crates/trials/specs:
 
-  Opened          every definition's name on one line, read from the crates' specs (no vectors); due again when a definition is added
+  Opened          the names of the definitions behind the answers on one line, read from the crates' specs (no vectors); due again when a
+                  definition is added
   Refusals        for each refusal of each call the smallest vector
   StudyReports, StudyLayout, StudyRefusals, CheckPasses, CheckRefusals
                   every STEPth vector whose files are under 3,000 bytes together, spread over the kinds of answer
@@ -14,7 +15,7 @@ import json, math, os, re, sys
 
 SPECS = 'crates/trials/specs/'
 DEFINITIONS = {'integers': 'Rounding Root Pairs Lists', 'text': 'Text Lines', 'feeder': 'Layout Feeder', 'equations': 'Equations',
-               'report': 'Report', 'ladder': 'Ladder Study', 'report_check': 'Check', 'account': 'Account'}
+               'report': 'Report', 'ladder': 'Ladder Study', 'compare': 'Differences', 'report_check': 'Check', 'account': 'Account'}
 REFUSALS = {10: 'Layout', 11: 'OutOfLimit', 20: 'UnknownFrom', 21: 'SecondTo', 22: 'NotReached', 23: 'PhaseAbsent', 24: 'NotZero',
             30: 'ZeroVoltage', 31: 'LoadBeyond', 32: 'CurrentBeyond', 33: 'VoltageBeyond', 34: 'NotSettled', 40: 'BufferShort',
             50: 'ReportLayout', 51: 'NameDiffers', 52: 'SourceDiffers', 53: 'CurrentDiffers', 54: 'VoltageOff', 55: 'TotalDiffers'}
@@ -41,7 +42,7 @@ def tables(data):
     return [[row.split(',') for row in table.split('\n')[1:] if row] for table in data.decode().split('\n\n')]
 
 
-# The line that is returned: the least of those that document 01 allows; for 54 the first that hangs below no other of them.
+# The line that is returned: the least of those that document 01 allows; for 54 the first that is fed through no other of them.
 def value(case):
     values = sorted(case['expected']['values'])
     if case['kind'][2] == 54:

@@ -1,4 +1,4 @@
-//! A second study and check for radial feeders, written from document 01 alone and proved by nobody.
+//! A second study and check for radial feeders, written from document 01 and docs/DECISIONS.md. Nothing here is proved.
 //!
 //! It is there to be compared with the proved programs (`bin/fuzz`) and to measure them against (`bin/bench`).
 

@@ -24,7 +24,7 @@ impl Calls {
     }
 }
 
-/// The twin through the same door.
+/// The twin by the same calls.
 pub const TWIN: Calls = Calls { study: twin_study, check: twin_check };
 
 /// # Safety

@@ -1,4 +1,4 @@
--- The account from the other side, so that none of it can be weakened: what it says of the feeder and the report that two texts are read as, and the table of demand 3 worked by hand. Assumes nothing.
+-- What the account says of the very feeder and report that two texts are read as, and the table of demand 3 worked by hand: none of it can be weakened. Assumes nothing.
 use mathlib.Core.Bool.{false, true}
 use mathlib.Core.List.{List, [], _∷_}
 use mathlib.Core.Path.{_∙_, _≡_, ap, refl, subst, sym}

@@ -31,7 +31,7 @@ use Rattle.integers.specs.Pairs.{0c, inside}
 use Rattle.integers.specs.declared.Pair.{Pair}
 use Rattle.text.specs.Lines.{nth}
 
--- the first line with a fault. Row k, counted from 1, stands in line `before` + k
+-- the first line with a fault ("any one such line may be returned"). Row k, counted from 1, stands in line `before` + k
 unfoldable pub firstRow : {X : Type 0} → (ℕ → X → Bool) → ℕ → ℕ → List X → Found
 firstRow bad before k [] = Nothing
 firstRow bad before k (x ∷ l) = cond (bad k x) (At (before + k)) (firstRow bad before (k + 1) l)
@@ -119,7 +119,8 @@ outOfLimit r =
     (orElse (firstBranch (λ k b. cond (ltb 200 k) true (not (branchIn (b .kind) (b .p)))) r)
     (firstLoad (λ k l. cond (ltb 300 k) true (not (loadIn l))) r))
 
--- ---- Radial form. Node 0 is the source, node k the "to" of row k; a name that no node has gets the number behind the last
+-- ---- Radial form. "Every node but the source stands once as "to"": node 0 is the source, node k the "to" of row k; a name that no node has gets the number
+-- behind the last
 unfoldable pub placeOf : ℕ → List ℕ → ℕ
 placeOf n [] = 0
 placeOf n (m ∷ l) = cond (eqb n m) 0 (suc (placeOf n l))

@@ -27,6 +27,7 @@ pub record Rows : Type 0 where
   pub branches : List BranchRow
   pub loads : List LoadRow
 
+-- "A phases or kind word not listed here .. is a fault of layout": the words of each column
 abbrev pub phaseSet : Bool → Bool → Bool → Phases
 phaseSet a b c = record { a = a; b = b; c = c }
 
@@ -49,6 +50,7 @@ phaseWords = (word "A", A) ∷ (word "B", B) ∷ (word "C", C) ∷ []
 abbrev pub loadWords : List (ℕ × LoadKind)
 loadWords = (word "P", Power) ∷ (word "I", Current) ∷ (word "Z", Impedance) ∷ []
 
+-- a line of the branches, four names and p1 to p12, and one of the loads, three names and vn, p, q
 unfoldable pub branchRow : Refusal → List ℕ → ℕ → Outcome (Placed BranchRow)
 branchRow r s at = do
   (x, next) ← row r 4 12 s at
@@ -63,7 +65,8 @@ loadRow r s at = do
   kind ← listed r (wordOf x 2) loadWords
   good (record { node = wordOf x 0; phase = phase; kind = kind; vn = nth (x .values) 1; s = record { re = nth (x .values) 2; im = nth (x .values) 3 } }, next)
 
--- rows from a line on, up to an empty line (the next byte is LF) or the end of the file; at most f
+-- rows from a line on ("Lines count from 1, empty ones too"), up to an empty line (the next byte is LF) or the end of the file. At most f: the tables below
+-- give it as many as they have bytes, and a row takes more than one, so that none is left out
 unfoldable pub rows : {X : Type 0} → (Refusal → List ℕ → ℕ → Outcome (Placed X)) → ℕ → List ℕ → ℕ → ℕ → (ℕ → Bool) → Outcome (Placed (List X))
 rows read zero s line at over = good ([], at)
 rows read (suc f) s line at over = cond (over at) (good ([], at)) (do
@@ -78,7 +81,8 @@ abbrev pub fileEnd : List ℕ → ℕ → Bool
 fileEnd s at = eqb at (length s)
 
 -- the three tables, each "read as a part of the file that starts after the empty line before it"; 10 is given with the "first line that
--- cannot go on a good file, or the line where it ends early"
+-- cannot go on a good file, or the line where it ends early". "One empty line stands between tables, nothing after the last"; "no or two source rows, is a
+-- fault of layout"
 unfoldable pub sourceTable : List ℕ → Outcome (Placed Row)
 sourceTable s = do
   p ← text (Layout 1) "source,va_re,va_im,vb_re,vb_im,vc_re,vc_im,tol,sweeps\n" s 0

@@ -16,7 +16,7 @@ pub record Report : Type 0 where
   pub text : List ℕ
   pub sweeps : ℕ
 
--- the report for a feeder's bytes
+-- the report for a feeder's bytes: the text of the solution that the sweeps come to
 unfoldable pub report : List ℕ → Outcome Report
 report s = do
   f ← reading s

@@ -16,12 +16,14 @@ use Rattle.ladder.specs.Study.{Report, answered, fitted, report, studyOf
 use Rattle.ladder.specs.declared.Study.the-variants.{Written}
 use Rattle.report.specs.Report.{reportText}
 
+-- "the number of sweeps made is part of the answer": it is the ladder's, from 1 to the feeder's limit
 pub record StudyGood (s : List ℕ) (n len k : ℕ) : Type 0 where
   pub feeder : Feeder
   pub solution-found : Solution
   pub read : reading s ≡ good feeder
   pub solved-as : solution feeder ≡ good solution-found
   pub sweeps : k ≡ solution-found .sweeps
+  pub first : 1 ≤ k
   pub limit : k ≤ feeder .limit
   pub text-length : len ≡ length (reportText feeder (solution-found .voltages) (solution-found .currents) (solution-found .sweeps))
   pub fits : len ≤ n
@@ -57,6 +59,7 @@ study-good s n len k e =
       read = d .came;
       solved-as = g .came;
       sweeps = m;
+      first = omega (arith, sweeps-in (d .value) (g .value) (g .came));
       limit = omega (arith, sweeps-in (d .value) (g .value) (g .came));
       text-length = l ∙ sym (ap (λ (y : Report). length (y .text)) w);
       fits = omega arith;

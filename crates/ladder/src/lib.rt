@@ -12,6 +12,7 @@ ghost use Rattle.ladder.specs.Ladder.{Solution, solution};
 ghost use Rattle.ladder.specs.Runs.{GoodRun, SmallRun, SmallSwept, SolvedAs, SweptIs, stillAt};
 ghost use Rattle.ladder.specs.Stages.{StudyAs, fittedFrom, fittedWith};
 ghost use Rattle.ladder.specs.Study.{bufferOf, studyOf};
+ghost use Rattle.ladder.specs.StudyLaws.{StudyGood};
 ghost use Rattle.passes.specs.Same.{Same};
 ghost use Rattle.sweeps.specs.Sweeps.{Known, SmallCurrents};
 use answers::Refusal;
@@ -273,6 +274,7 @@ pub fn study_network(g: Network, out: &mut [u8]) -> Study
 pub fn study_feeder(feeder: &[u8], out: &mut [u8]) -> Study
     ensures answer { λ r. ⌜ r ≡ studyOf (now (feeder .entry)) (length (now (out .entry))) ⌝ }
     ensures buffer { λ r. ⌜ now (out .exit) ≡ bufferOf (now (feeder .entry)) (now (out .entry)) ⌝ }
+    ensures sweeps { λ r. ⌜ ((len k : ℕ) → r ≡ Study.Written len k → StudyGood (now (feeder .entry)) (length (now (out .entry))) len k) ⌝ }
 {
     let read = read_feeder(feeder);
     let answer = read.answer;

@@ -45,15 +45,15 @@ pub fn place_of(name: u64, nodes: &[u64], n: usize) -> usize
     i
 }
 
-// The slot of a name. 4093 is a prime, so that names which differ in a letter or two have different slots.
+// The slot of a name. 4093 is a prime above 255, so that names which differ in one letter have different slots.
 fn slot_of(name: u64) -> usize
     ensures { λ r. ⌜ r ≡ slotOf name ⌝ }
 {
     (name % 4093) as usize
 }
 
-// For each slot the first place whose name has that slot: where to look before searching. A search among 200 names for each of 500 rows was the
-// slowest part of reading. It goes from the last name to the first, so that the first of those with one slot stays. Only a guess: a slot that no name
+// For each slot the first place whose name has that slot: where to look before searching. A search among 200 names for each of 500 rows is
+// slow. It goes from the last name to the first, so that the first of those with one slot stays. Only a guess: a slot that no name
 // has holds 0, and a place above 255 is stored as a lower one, since `find` compares the name.
 fn slots_of(nodes: &[u64], n: usize) -> [u8; 4093]
     requires { ⌜ n ≤ length (now nodes) ⌝ }

@@ -1,6 +1,6 @@
 -- What the study's answer says of the buffer that the check then reads: the report stands at its start, and passes. Assumes nothing.
 use mathlib.Core.List.{List}
-use mathlib.Core.Path.{_∙_, _≡_, ap, refl}
+use mathlib.Core.Path.{_∙_, _≡_, ap, refl, sym}
 use Prim.Native.Nat.{ℕ}
 use native.Mathlib.Omega.{arith}
 use lib.Dec.{ltb}
@@ -10,9 +10,12 @@ use Rattle.answers.specs.AnswerLaws.{bound, not-if}
 use Rattle.answers.specs.Answers.{Outcome, _>>_, good, refuseIf, refused}
 use Rattle.answers.specs.declared.Refusal.the-variants.{BufferShort}
 use Rattle.ladder.specs.Study.{Report, answered, bufferOf, filled, fitted, report, studyOf}
+use Rattle.ladder.specs.declared.Study.{Study}
 use Rattle.ladder.specs.declared.Study.the-variants.{Written}
 use Rattle.pair.specs.PairHolds.{pair-law}
+use Rattle.account.specs.Account.{PowerAccount}
 use Rattle.report_check.specs.Check.{checkOf}
+use Rattle.report_check.specs.Demand.{demand3}
 use Rattle.report_check.specs.declared.Verdict.the-variants.{Pass}
 
 -- a report that fits is the report
@@ -32,3 +35,13 @@ start-passes s out len k (refused r) h e = let z : _≡_ {A = ℕ} 0 1 = cc in a
 pub written-passes : (s out : List ℕ) (len k : ℕ) → studyOf s (length out) ≡ Written len k → checkOf s (take len (bufferOf s out)) ≡ Pass
 unfolding studyOf bufferOf
 written-passes s out len k e = start-passes s out len k (fitted s (length out)) (fitted-report s (length out)) e
+
+-- of an answer that is the study's and a buffer as the study leaves it: where a report was written, the check passes it, and the power account holds of it
+pub record Passes (s after : List ℕ) (len : ℕ) : Type 0 where
+  pub passes : checkOf s (take len after) ≡ Pass
+  pub account : PowerAccount s (take len after)
+
+pub passes-written : (s before after : List ℕ) (r : Study) → r ≡ studyOf s (length before) → after ≡ bufferOf s before → (len k : ℕ) → r ≡ Written len k → Passes s after len
+passes-written s before after r e b len k w =
+    let p : checkOf s (take len after) ≡ Pass = rw b (written-passes s before len k (sym e ∙ w)) in
+    record { passes = p; account = demand3 s (take len after) p }

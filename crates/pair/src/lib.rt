@@ -2,6 +2,8 @@
 ghost use mathlib.Core.Path.{_≡_};
 ghost use lib.ListN.{length};
 ghost use Rattle.ladder.specs.Study.{bufferOf, studyOf};
+ghost use Rattle.pair.specs.Calls.{Passes};
+ghost use Prim.Native.Nat.{ℕ};
 use ladder::Study;
 use ladder::study_feeder;
 use report_check::Verdict;
@@ -11,6 +13,7 @@ use report_check::check;
 pub fn study_and_check(feeder: &[u8], out: &mut [u8]) -> Study
     ensures answer { λ r. ⌜ r ≡ studyOf (now (feeder .entry)) (length (now (out .entry))) ⌝ }
     ensures buffer { λ r. ⌜ now (out .exit) ≡ bufferOf (now (feeder .entry)) (now (out .entry)) ⌝ }
+    ensures passed { λ r. ⌜ ((len k : ℕ) → r ≡ Study.Written len k → Passes (now (feeder .entry)) (now (out .exit)) len) ⌝ }
 {
     let answer = study_feeder(feeder, out);
     let Study::Written(size, _) = answer else {

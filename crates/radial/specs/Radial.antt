@@ -55,7 +55,7 @@ fromIn from k = getD from k 0
 abbrev pub made : ℕ → List ℕ → List ℕ → Order
 made len order rank = record { len = len; order = order; rank = rank }
 
--- the same where `par` gives the from-nodes
+-- `Placed` where the from-nodes are given without the branches
 pub record PlacedBy (par : ℕ → ℕ) (rows : ℕ) (o : Order) : Type 0 where
   pub few : rows ≤ 200
   pub from : (k : ℕ) → k < rows + 1 → par k < rows + 1

@@ -1,6 +1,7 @@
 // The order of work of a radial feeder: each node after the one that feeds it. specs/Radial.antt says what an order is, Reach.antt and First.antt what it tells.
 ghost use mathlib.Core.Path.{_≡_};
 ghost use Prim.Native.Nat.{_+_, _<_, ℕ};
+ghost use lib.ListN.{length};
 ghost use Rattle.radial.specs.Radial.{InOrder, Linked, Passed, PlacedBy, Stepped, firstLost, fromIn, made, parentIn};
 use answers::Found;
 use feeder::Branch;
@@ -51,43 +52,44 @@ fn place(
     len + 1
 }
 
-// Places a node, and before it the nodes above it that have no place. The way up is left after `steps` nodes, since it has no end where the rows make a circle.
+// Places a node, and before it the nodes above it that have no place. A node that was met before is not gone over again: it has a place, or its way up does
+// not come to the source.
 fn place_with_above(
     from: &[usize; 201],
     rows: usize,
-    steps: usize,
     node: usize,
+    met: &mut [usize; 201],
     len: usize,
     order: &mut [usize; 201],
     rank: &mut [usize; 201],
 ) -> usize
-    requires { ⌜ node < rows + 1 ⌝ }
+    requires { ⌜ (node < rows + 1) × (length (now met) ≡ 201) ⌝ }
     requires { ⌜ PlacedBy (fromIn (now from)) rows (made len (now order) (now rank)) ⌝ }
     ensures { λ r. ⌜ PlacedBy (fromIn (now (from .entry))) rows (made r (now (order .exit)) (now (rank .exit))) ⌝ }
+    ensures { λ _. ⌜ length (now (met .exit)) ≡ 201 ⌝ }
 {
-    if steps == 0 {
+    if met[node] != 0 {
         return len;
     }
-    if rank[node] != 0 {
-        return len;
-    }
+    met[node] = 1;
     let above = from[node];
-    let before = place_with_above(from, rows, steps - 1, above, len, order, rank);
+    let before = place_with_above(from, rows, above, met, len, order, rank);
     place(from, rows, node, before, order, rank)
 }
 
-// Every node with those above it. A node that the source reaches is placed once and not met again on a way up, so the time grows with the number of rows,
-// in whatever order they stand.
+// Every node with those above it. Each node is gone over once, so the time grows with the number of rows, in whatever order they stand.
 fn climb(from: &[usize; 201], rows: usize, before: Order) -> Order
     requires { ⌜ PlacedBy (fromIn (now from)) rows before ⌝ }
     ensures { λ r. ⌜ PlacedBy (fromIn (now (from .entry))) rows r ⌝ }
 {
+    let mut met = [0usize; 201];
+    met[0] = 1;
     let mut len = before.len;
     let mut order = before.order;
     let mut rank = before.rank;
     let mut node = 1;
     while node <= rows {
-        len = place_with_above(from, rows, rows, node, len, &mut order, &mut rank);
+        len = place_with_above(from, rows, node, &mut met, len, &mut order, &mut rank);
         node += 1;
     }
     Order {

@@ -17,7 +17,7 @@ use Rattle.integers.specs.declared.Pair.{Pair}
 use Rattle.text.specs.Lines.{Placed, Row, nth, row, text}
 use Rattle.text.specs.Text.{bytes, decimal, letters, line}
 
--- ---- the text
+-- ---- the text: "A table is a line of names, exactly those shown below, then lines of values in that order, comma-separated"
 unfoldable pub nameText : Feeder → ℕ → List ℕ
 nameText f k = letters 8 (getD (f .nodes) k 0)
 
@@ -60,7 +60,7 @@ pub record Reported : Type 0 where
   pub branches : List Row
   pub totals : List ℤ
 
--- just n rows
+-- just k rows of m names and n numbers
 unfoldable pub rowsJust : ℕ → ℕ → ℕ → List ℕ → ℕ → Outcome (Placed (List Row))
 rowsJust zero m n s at = good ([], at)
 rowsJust (suc k) m n s at = do
@@ -68,7 +68,7 @@ rowsJust (suc k) m n s at = do
   (xs, q) ← rowsJust k m n s p
   good (x ∷ xs, q)
 
--- a table of n rows, and the place behind the empty line after it
+-- a table of k such rows, and the place behind the empty line after it
 unfoldable pub tableOf : String → ℕ → ℕ → ℕ → List ℕ → Outcome (Placed (List Row))
 tableOf header k m n s = do
   p ← text ReportLayout header s 0

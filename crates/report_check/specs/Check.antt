@@ -17,7 +17,7 @@ use Rattle.report_check.specs.declared.Verdict.{Verdict}
 use Rattle.report_check.specs.declared.Verdict.the-variants.{Fail, Pass}
 
 -- 54: "the voltages worked downward from the source with those I, each step from the worked voltage above it, differ from the reported
--- ones by at most tol in re and im". Of the nodes that are off, the first that hangs below none
+-- ones by at most tol in re and im". Of the nodes that are off, the first that is fed through none that is
 unfoldable pub off : Feeder → Reported → List Three → ℕ → Bool
 off f r u k = not (all (λ p. close (f .tol) (at (getD u k zero3) p) (at (getD (reportedVoltages r) k zero3) p)) abc)
 
@@ -27,7 +27,8 @@ belowOff f r u k = downward (λ m b. cond (off f r u (parent f m)) true b) false
 unfoldable pub voltageOff : Feeder → Reported → List Three → Found
 voltageOff f r u = firstNode f (λ k. off f r u k && not (belowOff f r u k))
 
--- a report against its feeder
+-- a report against its feeder: "The check goes 9 to 24, 50 to 52, 30 to 32 (returning 0; I and J worked from the load currents at the reported V), then 53 to 55;
+-- 53 compares with those worked I"
 unfoldable pub compared : Feeder → Reported → Outcome Done
 compared f r =
     let v : List Three = reportedVoltages r in
@@ -43,6 +44,7 @@ compared f r =
       refuseIf (totalDiffers f r v i) TotalDiffers
       good done
 
+-- "It passes exactly when" nothing is refused
 unfoldable pub checked : List ℕ → List ℕ → Outcome Done
 checked s t = do
   refuseIf (tooLong t) TooLong

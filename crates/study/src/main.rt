@@ -1,4 +1,5 @@
-// The study program: reads a feeder from standard input, and writes its report, or the one line "refused NUMBER VALUE".
+// The study program: reads a feeder from standard input, and writes its report, or the one line "refused NUMBER VALUE". Where standard input cannot be
+// read, it is named on standard error, and nothing is written to standard output.
 use ladder::Study;
 use ladder::study_feeder;
 use programs::print_refusal;
@@ -21,5 +22,10 @@ fn main() {
     let mut file = [0u8; 65537];
     let mut out = io::large_buffer();
     let n = io::read_full(0, &mut file);
+    let error = os::errno();
+    if error != 0 {
+        os::fail(b"standard input");
+        return;
+    }
     print_study(&file[..n], &mut out);
 }

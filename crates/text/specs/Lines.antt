@@ -22,7 +22,8 @@ Placed X = X × ℕ
 abbrev pub sepOf : ℕ → ℕ
 sepOf left = cond (eqb left 0) 10 44
 
--- m names with a comma behind each, and n numbers, the last of them at the line's end; r where they do not stand there
+-- m names with a comma behind each, and n numbers, the last of them at the line's end; r where they do not stand there: "a field that is not a number ends
+-- the reading of its row"
 abbrev pub gotName : Refusal → Word → Outcome (Placed ℕ)
 gotName r (Name v next) = good (v, next)
 gotName r NoName = refused r

@@ -17,17 +17,13 @@ sets-append l i (x ∷ vs) ws =
     let e : i + suc (length vs) ≡ suc i + length vs = omega arith in
     sets-append (set l i x) (suc i) vs ws ∙ simp e
 
--- a writer behind another: what both wrote, and that there is room for the second where there is room for both
+-- a writer behind another: what both wrote
 pub written-behind : {out : List ℕ} {at : ℕ} {vs : List ℕ} {p : ℕ} {l ws : List ℕ} {q : ℕ} {m : List ℕ} →
     Written out at vs p l → Written l p ws q m → Written out at (vs ++ ws) q m
 written-behind {out} {at} {vs} {p} {l} {ws} a b = record {
   next = b .next ∙ ap (λ (n : ℕ). n + length ws) (a .next) ∙ simp (length-append, add-assoc);
   holds = b .holds ∙ ap (λ (n : ℕ). sets l n ws) (a .next) ∙ ap (λ (k : List ℕ). sets k (at + length vs) ws) (a .holds) ∙ sym (sets-append out at vs ws);
 }
-
-pub room-behind : {out : List ℕ} {at : ℕ} {vs : List ℕ} {p : ℕ} {l : List ℕ} (ws : List ℕ) →
-    at + length (vs ++ ws) ≤ length out → Written out at vs p l → p + length ws ≤ length l
-room-behind {out} {at} {vs} ws h a = omega (arith, simp length-append at h, a .next, ap length (a .holds) ∙ length-sets out at vs)
 
 -- the buffer keeps its length, and what stands before and behind the text
 pub written-length : {out : List ℕ} {at : ℕ} {vs : List ℕ} {p : ℕ} {l : List ℕ} → Written out at vs p l → length l ≡ length out

@@ -116,7 +116,7 @@ digits-fit (suc f) n =
     elim [ true ↦ omega arith | false ↦ simp length-append (omega (arith, digits-fit f (n / 10))) ] in
     h (ltb n 10)
 
--- no place is left over that a number could fill: one place more changes nothing
+-- where the places are enough for a number, one place more changes nothing
 digits-enough : (f n : ℕ) → n < 10 ^ suc f → digits (suc (suc f)) n ≡ digits (suc f) n
 unfolding digits
 digits-enough zero n h = simp (lt-ltb n 10 h)
@@ -170,6 +170,7 @@ letters-fit (suc f) v =
     elim [ true ↦ omega arith | false ↦ simp length-append (omega (arith, letters-fit f (v / 256))) ] in
     h (eqb v 0)
 
+-- and so with letters
 letters-enough : (f v : ℕ) → v < 256 ^ f → letters (suc f) v ≡ letters f v
 unfolding letters
 letters-enough zero v h = let e : v ≡ 0 = omega arith in simp e

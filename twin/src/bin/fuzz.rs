@@ -4,7 +4,7 @@
 //! bytes around them, and the answer and every byte are compared; then the check. The first difference ends the run, and
 //! its files are written to the folder named by FUZZ_OUT (or here).
 //!
-//! `--self` compares the twin with itself through the same door. There TWIN_WRONG=KIND:N spoils the N-th call on the far
+//! `--self` compares the twin with itself by the same calls. There TWIN_WRONG=KIND:N spoils the N-th call on the other
 //! side, to show that the fuzzer notices: KIND is `answer`, `byte` (in the report), `behind` (a byte behind it),
 //! `before` (a guard byte), `feeder` (writes into the feeder's bytes) or `check`.
 

@@ -44,7 +44,7 @@ returns c =
     let study = c .before .before .before .before .before .before .study-feeder in
     let told = c .before .before .answer .given in
     let e : studyOf (start .args .feeder .now) (length (start .args .out .now)) ≡ Written (told .0 .0) (told .0 .1 .0) = sym (study .ensures .0) ∙ told .1 in
-    (c .word-of .ensures ∙ sym (ap wordOfStudy e), study .ensures .1)
+    (c .word-of .ensures ∙ sym (ap wordOfStudy e), study .ensures .1 .0)
 
 same-length-2 : tie.Need-same-length-2
 same-length-2 c = search needs
@@ -55,7 +55,7 @@ returns-2 c =
     let study = c .before .before .before .before .before .before .study-feeder in
     let told = c .before .before .answer2 .given in
     let e : studyOf (start .args .feeder .now) (length (start .args .out .now)) ≡ NoReport (told .0 .0) = sym (study .ensures .0) ∙ told .1 in
-    (c .refusal-word .ensures ∙ sym (ap wordOfStudy e), study .ensures .1)
+    (c .refusal-word .ensures ∙ sym (ap wordOfStudy e), study .ensures .1 .0)
 
 pub flarecomb-study-spec : {M : Type 1} → statement M
 flarecomb-study-spec =

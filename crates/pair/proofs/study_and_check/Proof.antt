@@ -7,7 +7,7 @@ use borrow.Author.Needs.{needs}
 use Rattle.ladder.specs.Study.{bufferOf, studyOf}
 use Rattle.ladder.specs.StudyLaws.{study-good}
 use Rattle.ladder.specs.declared.Study.the-variants.{Written}
-use Rattle.pair.specs.Calls.{written-passes}
+use Rattle.pair.specs.Calls.{passes-written, written-passes}
 use Rattle.report_check.specs.Check.{checkOf}
 use Rattle.report_check.specs.declared.Verdict.the-variants.{Fail}
 use Rattle.pair.proofs.study_and_check.Statement.{statement}
@@ -26,7 +26,10 @@ same-length : tie.Need-same-length
 same-length c = search needs
 
 returns : tie.Need-returns
-returns c = search needs
+returns c =
+    let s = c .before .before .before .before .before .before .before .before in
+    let study = c .before .before .before .before .study-feeder in
+    (study .ensures .0, (study .ensures .1 .0, passes-written (s .args .feeder .now) (s .args .out .now) _ _ (study .ensures .0) (study .ensures .1 .0)))
 
 sub-check : tie.Need-sub-check
 sub-check c = search needs
@@ -59,7 +62,7 @@ returns-2 c =
     let e : studyOf (s .args .feeder .now) (length (s .args .out .now)) ≡ Written (answer .0 .0) (answer .0 .1 .0) = sym (study .ensures .0) ∙ answer .1 in
     let verdict = c .before .before .before .check in
     let passes = written-passes (s .args .feeder .now) (s .args .out .now) _ _ e in
-    let written : study .last .1 .0 ≡ bufferOf (s .args .feeder .now) (s .args .out .now) = study .ensures .1 in
+    let written : study .last .1 .0 ≡ bufferOf (s .args .feeder .now) (s .args .out .now) = study .ensures .1 .0 in
     let told : verdict .result ≡ checkOf (s .args .feeder .now) (take (answer .0 .0 - 0) (study .last .1 .0)) = verdict .ensures .0 in
     let from-start : answer .0 .0 - 0 ≡ answer .0 .0 = omega arith in
     let fails : verdict .result ≡ Fail (c .before .verdict .given .0 .0) = c .before .verdict .given .1 in
@@ -78,7 +81,7 @@ returns-3 c =
     let study = c .before .before .before .before .before .before .before .before .before .before .study-feeder in
     let answer = c .before .before .before .before .before .before .answer .given in
     let e : studyOf (s .args .feeder .now) (length (s .args .out .now)) ≡ Written (answer .0 .0) (answer .0 .1 .0) = sym (study .ensures .0) ∙ answer .1 in
-    (sym e, study .ensures .1)
+    (sym e, (study .ensures .1 .0, passes-written (s .args .feeder .now) (s .args .out .now) _ _ (sym e) (study .ensures .1 .0)))
 
 pub study-and-check-spec : {M : Type 1} → statement M
 study-and-check-spec =

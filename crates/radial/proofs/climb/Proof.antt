@@ -1,15 +1,20 @@
 -- `radial::climb` meets its contract: the order stays one. Assumes nothing.
+use mathlib.Core.Path.{_≡_}
 use Prim.Native.Nat.{_+_, _-_}
+use lib.ListN.{length}
 use Rattle.radial.specs.Radial.{PlacedBy, fromIn, made}
 use borrow.Author.Needs.{needs}
 use Rattle.radial.proofs.climb.Statement.{statement}
 use Rattle.radial.proofs.climb.Tie as tie
 
 abbrev Inv-loop : tie.InvT-loop
-Inv-loop from rows len₀ order₀ rank₀ node₀ len order rank node = PlacedBy (fromIn from) rows (made len order rank)
+Inv-loop from rows met₀ len₀ order₀ rank₀ node₀ met len order rank node = PlacedBy (fromIn from) rows (made len order rank) × (length met ≡ 201)
 
 abbrev μ-loop : tie.MeasureT-loop
-μ-loop from rows len₀ order₀ rank₀ node₀ len order rank node = rows + 1 - node
+μ-loop from rows met₀ len₀ order₀ rank₀ node₀ met len order rank node = rows + 1 - node
+
+array-write-met : tie.Need-array-write-met Inv-loop μ-loop
+array-write-met c = search needs
 
 loop-holds : tie.Need-loop-holds Inv-loop μ-loop
 loop-holds c = search needs
@@ -32,4 +37,4 @@ returns c = search needs
 pub climb-spec : {M : Type 1} → statement M
 climb-spec =
     tie.close
-    (tie.spec Inv-loop μ-loop loop-holds place-with-above-requires add-node loop-less loop-again returns)
+    (tie.spec Inv-loop μ-loop array-write-met loop-holds place-with-above-requires add-node loop-less loop-again returns)
