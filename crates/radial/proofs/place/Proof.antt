@@ -1,6 +1,6 @@
 -- `radial::place` meets its contract: a step at node k, where it is placed and where it is left. Assumes nothing.
 use Prim.Native.Nat.{_<_}
-use Rattle.radial.specs.Radial.{fromIn, made}
+use Rattle.radial.specs.Radial.{fromIn}
 use Rattle.radial.proofs.Placing.{room, step-placed}
 use borrow.Author.Needs.{needs}
 use native.Mathlib.Omega.{arith}

@@ -1,0 +1,74 @@
+-- `compare` is safe and ends: k goes up to the last row. Assumes nothing.
+use Prim.Native.Nat.{_≤_, _+_, _-_}
+use borrow.Author.Needs.{needs}
+use Rattle.second_solver.proofs.compare.compare.Statement.{statement}
+use Rattle.second_solver.proofs.compare.compare.Tie as tie
+
+abbrev Inv-loop : tie.InvT-loop
+Inv-loop rows moved solved reported bounds last c₀ k₀ c k = k ≤ last + 1
+
+abbrev μ-loop : tie.MeasureT-loop
+μ-loop rows moved solved reported bounds last c₀ k₀ c k = last + 1 - k
+
+place-requires : tie.Need-place-requires Inv-loop μ-loop
+place-requires c κs = search needs
+
+loop-holds : tie.Need-loop-holds Inv-loop μ-loop
+loop-holds c = search needs
+
+mul-x : tie.Need-mul-x Inv-loop μ-loop
+mul-x c = search needs
+
+array-copy-out-x : tie.Need-array-copy-out-x Inv-loop μ-loop
+array-copy-out-x c = search needs
+
+mul-y : tie.Need-mul-y Inv-loop μ-loop
+mul-y c = search needs
+
+array-copy-out-y : tie.Need-array-copy-out-y Inv-loop μ-loop
+array-copy-out-y c = search needs
+
+mul-e : tie.Need-mul-e Inv-loop μ-loop
+mul-e c = search needs
+
+array-copy-out-e : tie.Need-array-copy-out-e Inv-loop μ-loop
+array-copy-out-e c = search needs
+
+phasors-of-requires : tie.Need-phasors-of-requires Inv-loop μ-loop
+phasors-of-requires c κs = search needs
+
+compare-row-requires : tie.Need-compare-row-requires Inv-loop μ-loop
+compare-row-requires c κs = search needs
+
+add-k : tie.Need-add-k Inv-loop μ-loop
+add-k c = search needs
+
+loop-less : tie.Need-loop-less Inv-loop μ-loop
+loop-less c = search needs
+
+loop-again : tie.Need-loop-again Inv-loop μ-loop
+loop-again c = search needs
+
+returns : tie.Need-returns Inv-loop μ-loop
+returns c = search needs
+
+pub compare-spec : {M : Type 1} → statement M
+compare-spec =
+    tie.close
+    (tie.spec
+    Inv-loop
+    μ-loop
+    place-requires
+    loop-holds
+    mul-x
+    array-copy-out-x
+    mul-y
+    array-copy-out-y
+    mul-e
+    array-copy-out-e
+    phasors-of-requires
+    compare-row-requires
+    add-k
+    loop-less
+    loop-again
+    returns)

@@ -1,0 +1,70 @@
+-- `solve` ends after 1,000 sweeps. Assumes nothing.
+use Prim.Native.Nat.{_≤_, _-_}
+use borrow.Author.Needs.{needs}
+use Rattle.second_solver.proofs.solver.solve.Statement.{statement}
+use Rattle.second_solver.proofs.solver.solve.Tie as tie
+
+abbrev Inv-loop : tie.InvT-loop
+Inv-loop branches rows order loads count i₀ source v₀ sweeps₀ i v sweeps = sweeps ≤ 1000
+
+abbrev μ-loop : tie.MeasureT-loop
+μ-loop branches rows order loads count i₀ source v₀ sweeps₀ i v sweeps = 1000 - sweeps
+
+no-phasors-requires : tie.Need-no-phasors-requires Inv-loop μ-loop
+no-phasors-requires c κs = search needs
+
+phasors-of-requires : tie.Need-phasors-of-requires Inv-loop μ-loop
+phasors-of-requires c κs = search needs
+
+downward-requires : tie.Need-downward-requires Inv-loop μ-loop
+downward-requires c κs = search needs
+
+loop-holds : tie.Need-loop-holds Inv-loop μ-loop
+loop-holds c = search needs
+
+drawn-requires : tie.Need-drawn-requires Inv-loop μ-loop
+drawn-requires c κs = search needs
+
+upward-requires : tie.Need-upward-requires Inv-loop μ-loop
+upward-requires c κs = search needs
+
+downward-requires-2 : tie.Need-downward-requires-2 Inv-loop μ-loop
+downward-requires-2 c κs = search needs
+
+add-sweeps : tie.Need-add-sweeps Inv-loop μ-loop
+add-sweeps c = search needs
+
+all-still-requires : tie.Need-all-still-requires Inv-loop μ-loop
+all-still-requires c κs = search needs
+
+returns : tie.Need-returns Inv-loop μ-loop
+returns c = search needs
+
+loop-less : tie.Need-loop-less Inv-loop μ-loop
+loop-less c = search needs
+
+loop-again : tie.Need-loop-again Inv-loop μ-loop
+loop-again c = search needs
+
+returns-2 : tie.Need-returns-2 Inv-loop μ-loop
+returns-2 c = search needs
+
+pub solve-spec : {M : Type 1} → statement M
+solve-spec =
+    tie.close
+    (tie.spec
+    Inv-loop
+    μ-loop
+    no-phasors-requires
+    phasors-of-requires
+    downward-requires
+    loop-holds
+    drawn-requires
+    upward-requires
+    downward-requires-2
+    add-sweeps
+    all-still-requires
+    returns
+    loop-less
+    loop-again
+    returns-2)

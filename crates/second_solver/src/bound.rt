@@ -1,0 +1,137 @@
+// How far a report may lie from the solution in floats. The study's numbers differ from that for three reasons only:
+//
+// - a voltage or a current is rounded: re and im each move by at most 1/2, so a phasor by at most the root of 1/2. A voltage is rounded once on its way
+//   through a line or a regulator and twice through a transformer; a current once in a load, a regulator or a transformer;
+// - the whole root in a load of constant current is less than 1 below the root;
+// - the reported voltages are those before the last sweep, which moved re and im by at most tol, so a phasor by at most the root of 2 times tol.
+//
+// The bound on a voltage or a current is the largest length to which these can add up. It is worked by the solver's sweeps, with lengths in the place of
+// phasors and no minus, so that nothing cancels (component.rt). Where the voltage at a load is off by e, its current is off by its slope times e and its own rounding. With V
+// the voltage in floats and W the reported one, the slope is |S| / (|V|·|W|) for constant power, at most 2·|S| / (vn·(|V| + |W|)) for constant current, and
+// |S| / vn² for constant impedance. Where these sweeps settle, no report that follows document 01 is further off: what a report is off by is at most one more
+// sweep of itself. Where they do not, as near a collapse of the voltage, there is no bound.
+use crate::component::Quantity;
+use crate::component::rounding;
+use crate::phasor::Phasor;
+use crate::phasor::Phasors;
+use crate::phasor::add_each;
+use crate::phasor::length;
+use crate::phasor::no_phasors;
+use crate::phasor::phasor_of;
+use crate::phasor::phasors_of;
+use crate::phasor::real;
+use crate::phasor::root;
+use crate::solver::all_still;
+use crate::solver::downward;
+use crate::solver::load_count;
+use crate::solver::on_phase;
+use crate::solver::only_on;
+use crate::solver::place;
+use crate::solver::upward;
+use feeder::Load;
+use feeder::LoadKind;
+use feeder::Network;
+use feeder::Three;
+
+// Where `found`, the bounds on the voltages at each node in cV, to which `moved` is added for the last sweep's movement, and on the currents of each branch
+// in mA. They stand in re.
+pub struct Bounds {
+    pub found: bool,
+    pub voltages: [Phasors; 201],
+    pub moved: f64,
+    pub currents: [Phasors; 201],
+}
+
+// How far the current of a load is off where its voltage is off by at most e: its slope times e, its rounding, and for constant current its whole root.
+fn load_bound(l: Load, solved: Phasor, reported: Phasor, e: f64) -> f64 {
+    let kind = l.kind;
+    let s = 100000.0 * length(phasor_of(l.s));
+    let vn = real(l.vn);
+    let v = length(solved);
+    let w = length(reported);
+    match kind {
+        LoadKind::Power => s / (v * w) * e + rounding(),
+        LoadKind::Current => {
+            let least_root = if w < 2.0 { 1.0 } else { w - 1.0 };
+            2.0 * s / (vn * (v + w)) * e + s / (vn * least_root) + rounding()
+        }
+        LoadKind::Impedance => s / (vn * vn) * e + rounding(),
+    }
+}
+
+// The same on the load's phase, from the voltages of its node and the bounds on them.
+fn load_bounds(l: Load, solved: Phasors, reported: Three, bounds: Phasors, moved: f64) -> Phasors {
+    let phase = l.phase;
+    let v = on_phase(phase, solved);
+    let w = on_phase(phase, phasors_of(reported));
+    let e = on_phase(phase, bounds);
+    only_on(
+        phase,
+        Phasor {
+            re: load_bound(l, v, w, e.re + moved),
+            im: 0.0,
+        },
+    )
+}
+
+// The sum over the loads at each node.
+fn drawn_bounds(
+    loads: [Load; 300],
+    rows: usize,
+    solved: [Phasors; 201],
+    reported: [Three; 201],
+    bounds: [Phasors; 201],
+    moved: f64,
+) -> [Phasors; 201] {
+    let count = load_count(rows);
+    let none = no_phasors();
+    let mut own = [none; 201];
+    let mut row = 0;
+    while row < count {
+        let l = loads[row];
+        let node = place(l.node);
+        let v = solved[node];
+        let w = reported[node];
+        let e = bounds[node];
+        let held = own[node];
+        let sum = add_each(held, load_bounds(l, v, w, e, moved));
+        own[node] = sum;
+        row += 1;
+    }
+    own
+}
+
+// The bounds, from the voltages in floats and the reported ones, if 1,000 sweeps are enough. The source is not off.
+pub fn bounds_on(g: Network, solved: [Phasors; 201], reported: [Three; 201]) -> Bounds {
+    let branches = g.branches;
+    let rows = g.rows;
+    let order = g.order;
+    let loads = g.loads;
+    let count = g.count;
+    let none = no_phasors();
+    let moved = root(2.0) * std::num::nearest_u64_to_f64(g.tol);
+    let mut e = [none; 201];
+    let mut i = [none; 201];
+    let mut sweeps: usize = 0;
+    while sweeps < 1000 {
+        let own = drawn_bounds(loads, count, solved, reported, e, moved);
+        i = upward(branches, rows, order, Quantity::Bound, own);
+        let grown = downward(branches, rows, order, Quantity::Bound, none, i);
+        if all_still(rows, e, grown) {
+            return Bounds {
+                found: true,
+                voltages: grown,
+                moved,
+                currents: i,
+            };
+        }
+        e = grown;
+        sweeps += 1;
+    }
+    Bounds {
+        found: false,
+        voltages: e,
+        moved,
+        currents: i,
+    }
+}

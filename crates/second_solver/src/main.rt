@@ -1,0 +1,207 @@
+// A second solver for the study: each feeder of the file `cases` is studied, and solved again in floats with no rounding. A line for each
+// feeder has the largest distance of its report from the solution in floats, for voltages and for currents, and the largest share of its bound (bound.rt) that a
+// distance has at any node and phase. A feeder on which a distance is above its bound is OVER. One that the study leaves unsettled (34) is named as
+// such, with what the floats do.
+ghost use Prim.Native.Nat.{_≤_};
+ghost use lib.ListN.{length};
+use crate::bound::bounds_on;
+use crate::compare::Compared;
+use crate::compare::compare;
+use crate::solver::place;
+use crate::solver::solve;
+use answers::number_of;
+use cases::Case;
+use cases::case_at;
+use cases::read_cases;
+use feeder::Network;
+use ladder::Study;
+use ladder::study_feeder;
+use libc::STDOUT_FILENO;
+use programs::print_refusal;
+use programs::used;
+use reading::ReadAnswer;
+use reading::read_feeder;
+use report_reader::ReportRead;
+use report_reader::read_report;
+
+pub mod bound;
+pub mod compare;
+pub mod component;
+pub mod phasor;
+pub mod solver;
+
+// x in hundredths, to the nearest whole number; 0 where there is none.
+fn hundredths(x: f64) -> u64 {
+    let y = 100.0 * x + 0.5;
+    if y > -1.0 {
+        if y < 18446744073709551616.0 {
+            return std::num::truncating_f64_to_u64(y);
+        }
+    }
+    0
+}
+
+fn print(words: &[u8]) {
+    io::write_all(STDOUT_FILENO, words);
+}
+
+// What is compared, the distance with its unit, and the share in per cent.
+fn print_compared(what: &[u8], c: Compared, unit: &[u8]) {
+    let d = hundredths(c.distance);
+    let share = hundredths(c.share);
+    print(what);
+    io::print_decimal(STDOUT_FILENO, d / 100);
+    print(b".");
+    io::print_decimal(STDOUT_FILENO, d / 10 % 10);
+    io::print_decimal(STDOUT_FILENO, d % 10);
+    print(unit);
+    io::print_decimal(STDOUT_FILENO, share);
+    print(b" %");
+}
+
+fn within(voltages: Compared, currents: Compared) -> bool {
+    if voltages.share <= 1.0 {
+        return currents.share <= 1.0;
+    }
+    false
+}
+
+fn print_both(voltages: Compared, currents: Compared) {
+    if !within(voltages, currents) {
+        print(b" OVER:");
+    }
+    print_compared(b" voltage ", voltages, b" cV, share of bound ");
+    print_compared(b"; current ", currents, b" mA, share of bound ");
+    print(b"\n");
+}
+
+// The line of a feeder with a report, behind its name.
+fn try_report(g: Network, report: ReportRead) {
+    let s = solve(g);
+    if !s.settled {
+        print(b" OVER: the floats do not settle\n");
+        return;
+    }
+    let solved_voltages = s.voltages;
+    let solved_currents = s.currents;
+    let voltages = report.voltages;
+    let currents = report.currents;
+    let e = bounds_on(g, solved_voltages, voltages);
+    if !e.found {
+        print(b" OVER: there is no bound\n");
+        return;
+    }
+    let voltage_bounds = e.voltages;
+    let current_bounds = e.currents;
+    let v = compare(g.rows, solved_voltages, voltages, voltage_bounds, e.moved);
+    let i = compare(g.rows, solved_currents, currents, current_bounds, 0.0);
+    print_both(v, i);
+}
+
+// The feeder's limit of sweeps, and the sweeps in which the floats settle. Where the floats settle within that limit, it is the whole numbers that run in a circle.
+fn print_sweeps(limit: usize, sweeps: usize) {
+    if sweeps <= limit {
+        print(b" runs in a circle (34): limit ");
+    } else {
+        print(b" is not settled (34): limit ");
+    }
+    io::print_decimal(STDOUT_FILENO, limit as u64);
+    print(b", the floats settle in ");
+    io::print_decimal(STDOUT_FILENO, sweeps as u64);
+    print(b" sweeps\n");
+}
+
+// The line of a feeder that the study leaves unsettled (34), behind its name.
+fn try_unsettled(g: Network) {
+    let s = solve(g);
+    if s.settled {
+        print_sweeps(g.limit, s.sweeps);
+    } else {
+        print(b" is not settled (34), nor are the floats\n");
+    }
+}
+
+// The limit of sweeps, which is at most 100 in every feeder.
+fn limit_of(limit: usize) -> usize
+    ensures { λ r. ⌜ r ≤ 100 ⌝ }
+{
+    if limit <= 100 { limit } else { 100 }
+}
+
+// The line of a feeder in memory with the text of its report, behind its name.
+fn try_written(g: Network, written: &[u8]) {
+    let report = read_report(written, place(g.rows), limit_of(g.limit));
+    if report.ok {
+        try_report(g, report);
+    } else {
+        print(b" OVER: the report is not read\n");
+    }
+}
+
+// The line of a feeder in memory, behind its name, from what the study made of it and the buffer that it wrote.
+fn try_study(g: Network, study: Study, buffer: &[u8]) {
+    match study {
+        Study::NoReport(x) => {
+            if number_of(x) == 34 {
+                try_unsettled(g);
+            } else {
+                print(b" ");
+                print_refusal(x);
+            }
+        }
+        Study::Written(size, _) => {
+            let n = used(size, buffer);
+            try_written(g, &buffer[..n]);
+        }
+    }
+}
+
+fn study_and_try(feeder: &[u8], g: Network) {
+    let mut buffer = io::large_buffer();
+    let study = study_feeder(feeder, &mut buffer);
+    try_study(g, study, &buffer);
+}
+
+fn try_feeder(feeder: &[u8]) {
+    let read = read_feeder(feeder);
+    let answer = read.answer;
+    match answer {
+        ReadAnswer::Good => study_and_try(feeder, read.network),
+        ReadAnswer::Refused(x) => {
+            print(b" ");
+            print_refusal(x);
+        }
+    }
+}
+
+// The line of one case, whose places lie in the text. Its first text is its name, and its second the feeder.
+fn try_case(text: &[u8], case: Case)
+    requires { ⌜ (case .feeder ≤ case .report) × (case .report ≤ case .end) × (case .end ≤ length (now text)) ⌝ }
+{
+    let from = case.feeder;
+    let middle = case.report;
+    let end = case.end;
+    print(&text[from..middle]);
+    try_feeder(&text[middle..end]);
+}
+
+fn try_all(text: &[u8]) {
+    let mut at = 0;
+    while at < text.len() {
+        let case = case_at(text, at);
+        try_case(text, case);
+        at = case.end;
+    }
+}
+
+// Room for the cases. Written out in the function that lends it, so long an array is more than the prover can follow.
+fn text_space() -> [u8; 2097152] {
+    [0; 2097152]
+}
+
+fn main() {
+    let mut text = text_space();
+    let size = read_cases(b"cases", &mut text);
+    let n = used(size, &text);
+    try_all(&text[..n]);
+}
