@@ -1,5 +1,6 @@
 // The check's program: `archive_check FEEDER REPORT` reads the two files and writes "pass", or the one line "refused NUMBER VALUE". A file that
 // cannot be opened or read is named on standard error, and nothing is written to standard output.
+use programs::print;
 use programs::print_refusal;
 use programs::used;
 use report_check::Verdict;
@@ -38,7 +39,7 @@ fn print_verdict(feeder: &[u8], report: &[u8]) {
     let verdict = check(feeder, report);
     match verdict {
         Verdict::Pass => {
-            io::write_all(1, b"pass\n");
+            print(b"pass\n");
         }
         Verdict::Fail(x) => {
             print_refusal(x);

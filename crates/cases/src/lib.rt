@@ -7,6 +7,11 @@ use integers::whole;
 use text::Field;
 use text::read::read_number;
 
+// Room for the cases of a file. Written out in the function that lends it, so long an array is more than the prover can follow.
+pub fn text_space() -> [u8; 2097152] {
+    [0; 2097152]
+}
+
 // The cases of a file, unpacked. The answer is how many bytes they have.
 pub fn read_cases(name: &[u8], text: &mut [u8]) -> usize {
     let fd = os::open_read(name);

@@ -1,19 +1,23 @@
-// What the programs share: the line that is written for a refusal, and the part of a buffer that is in use.
+// What the programs share: words and the line of a refusal on standard output, and the part of a buffer that is in use.
 ghost use Rattle.io.specs.Counts.{Counts};
 use answers::Refusal;
 use answers::number_of;
 use answers::value_of;
 use libc::STDOUT_FILENO;
 
+pub fn print(words: &[u8]) {
+    io::write_all(STDOUT_FILENO, words);
+}
+
 // The line "refused NUMBER VALUE".
 pub fn print_refusal(x: Refusal) {
     let number = number_of(x);
     let value = value_of(x);
-    io::write_all(STDOUT_FILENO, b"refused ");
+    print(b"refused ");
     io::print_decimal(STDOUT_FILENO, number as u64);
-    io::write_all(STDOUT_FILENO, b" ");
+    print(b" ");
     io::print_decimal(STDOUT_FILENO, value as u64);
-    io::write_all(STDOUT_FILENO, b"\n");
+    print(b"\n");
 }
 
 // How many bytes at the buffer's start are in use: size, which is never more than the buffer has.

@@ -13,10 +13,12 @@ use answers::number_of;
 use cases::Case;
 use cases::case_at;
 use cases::read_cases;
+use cases::text_space;
 use feeder::Network;
 use ladder::Study;
 use ladder::study_feeder;
 use libc::STDOUT_FILENO;
+use programs::print;
 use programs::print_refusal;
 use programs::used;
 use reading::ReadAnswer;
@@ -39,10 +41,6 @@ fn hundredths(x: f64) -> u64 {
         }
     }
     0
-}
-
-fn print(words: &[u8]) {
-    io::write_all(STDOUT_FILENO, words);
 }
 
 // What is compared, the distance with its unit, and the share in per cent.
@@ -192,11 +190,6 @@ fn try_all(text: &[u8]) {
         try_case(text, case);
         at = case.end;
     }
-}
-
-// Room for the cases. Written out in the function that lends it, so long an array is more than the prover can follow.
-fn text_space() -> [u8; 2097152] {
-    [0; 2097152]
 }
 
 fn main() {

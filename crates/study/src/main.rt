@@ -2,6 +2,7 @@
 // read, it is named on standard error, and nothing is written to standard output.
 use ladder::Study;
 use ladder::study_feeder;
+use programs::print;
 use programs::print_refusal;
 use programs::used;
 
@@ -10,7 +11,7 @@ fn print_study(file: &[u8], out: &mut [u8]) {
     match answer {
         Study::Written(len, _) => {
             let n = used(len, out);
-            io::write_all(1, &out[..n]);
+            print(&out[..n]);
         }
         Study::NoReport(x) => {
             print_refusal(x);

@@ -6,9 +6,11 @@ use cases::Case;
 use cases::case_at;
 use cases::count_at;
 use cases::read_cases;
+use cases::text_space;
 use ladder::Study;
 use ladder::study_feeder;
 use libc::STDOUT_FILENO;
+use programs::print;
 use programs::print_refusal;
 use programs::used;
 use reading::ReadAnswer;
@@ -20,10 +22,6 @@ enum Kind {
     Reading,
     Study,
     Check,
-}
-
-fn print(words: &[u8]) {
-    io::write_all(STDOUT_FILENO, words);
 }
 
 fn try_reading(feeder: &[u8]) {
@@ -122,11 +120,6 @@ fn try_all(kind: Kind, text: &[u8]) {
         try_case(kind, number, text, case);
         at = case.end;
     }
-}
-
-// Room for the cases of a file. Written out in the function that lends it, so long an array is more than the prover can follow.
-fn text_space() -> [u8; 2097152] {
-    [0; 2097152]
 }
 
 fn try_file(kind: Kind, name: &[u8]) {
