@@ -11,14 +11,21 @@ ghost use Rattle.feeder.specs.Network.{Held, kept};
 ghost use Rattle.feeder.specs.declared.Network.{Network};
 ghost use Rattle.feeder.specs.declared.Three.{Three};
 ghost use Rattle.equations.specs.Equations.{drawnPower, lossOf, lostPower, sourcePower, zero3};
+ghost use Rattle.arrays.specs.Arrays.{branchesOf, pairsOf, threesOf};
 ghost use Rattle.radial.specs.Radial.{parentIn};
 ghost use Rattle.report.specs.Report.{Reported};
-ghost use Rattle.report_reader.specs.Read.{ReportHeld, pairFrom};
-ghost use Rattle.report_reader.specs.declared.ReportRead.{ReportRead};
+ghost use Rattle.report_reader.specs.Read.{ReportHeld, ReportRead, pairFrom};
 ghost use Rattle.compare.specs.Differences.{currentDiffers, nameDiffers, same3, sourceDiffers, totalDiffers};
 ghost use Rattle.compare.specs.Compare.{absentDiffers, absentZero, lossesSame, namesDiffer, nodeNameDiffers, nodeScan, rowScan, threeDiffers};
 use answers::Found;
-use feeder::Branch;
+use arrays::Branches;
+use arrays::Names;
+use arrays::Pairs;
+use arrays::Threes;
+use arrays::from_at;
+use arrays::pair_at;
+use arrays::phases_at;
+use arrays::three_at;
 use feeder::Phases;
 use feeder::Three;
 use integers::Pair;
@@ -56,9 +63,9 @@ fn same_three(x: Three, y: Three) -> bool
 
 // ---- 51
 // The first node row with another name than the feeder's.
-fn first_node_name(nodes: [u64; 201], rows: usize, names: [u64; 201]) -> Found
+fn first_node_name(nodes: &Names, rows: usize, names: &Names) -> Found
     requires { ⌜ rows ≤ 200 ⌝ }
-    ensures { λ r. ⌜ r ≡ nodeScan (nodeNameDiffers nodes names) rows ⌝ }
+    ensures { λ r. ⌜ r ≡ nodeScan (nodeNameDiffers (now (nodes .entry)) (now (names .entry))) rows ⌝ }
 {
     let mut k = 0;
     while k <= rows {
@@ -72,20 +79,19 @@ fn first_node_name(nodes: [u64; 201], rows: usize, names: [u64; 201]) -> Found
 
 // The first branch row with another from-name or to-name than the feeder's.
 fn first_branch_name(
-    nodes: [u64; 201],
-    branches: [Branch; 201],
+    nodes: &Names,
+    branches: &Branches,
     rows: usize,
-    froms: [u64; 201],
-    tos: [u64; 201],
+    froms: &Names,
+    tos: &Names,
 ) -> Found
     requires { ⌜ rows ≤ 200 ⌝ }
-    requires { ⌜ ((k : ℕ) → k < rows + 1 → parentIn branches k < 201) ⌝ }
-    ensures { λ r. ⌜ r ≡ rowScan (namesDiffer nodes branches froms tos) rows ⌝ }
+    requires { ⌜ ((k : ℕ) → k < rows + 1 → parentIn (branchesOf (now branches)) k < 201) ⌝ }
+    ensures { λ r. ⌜ r ≡ rowScan (namesDiffer (now (nodes .entry)) (branchesOf (now (branches .entry))) (now (froms .entry)) (now (tos .entry))) rows ⌝ }
 {
     let mut k = 1;
     while k <= rows {
-        let b = branches[k];
-        let from = b.from;
+        let from = from_at(branches, k);
         if froms[k] != nodes[from] {
             return Found::At(rows + 4 + k);
         }
@@ -99,16 +105,16 @@ fn first_branch_name(
 
 // 51: "names and row order are the feeder's".
 pub fn first_name_differs(
-    nodes: [u64; 201],
-    branches: [Branch; 201],
+    nodes: &Names,
+    branches: &Branches,
     rows: usize,
-    names: [u64; 201],
-    froms: [u64; 201],
-    tos: [u64; 201],
+    names: &Names,
+    froms: &Names,
+    tos: &Names,
 ) -> Found
     requires { ⌜ rows ≤ 200 ⌝ }
-    requires { ⌜ ((k : ℕ) → k < rows + 1 → parentIn branches k < 201) ⌝ }
-    ensures { λ r. ⌜ ((f : Feeder) (g : Network) (x : Reported) (t : ReportRead) → Held f g → ReportHeld (rowCount f) x t → rows ≡ g .rows → nodes ≡ g .nodes → branches ≡ g .branches → names ≡ t .«node_names» → froms ≡ t .«from_names» → tos ≡ t .«to_names» → r ≡ nameDiffers f x) ⌝ }
+    requires { ⌜ ((k : ℕ) → k < rows + 1 → parentIn (branchesOf (now branches)) k < 201) ⌝ }
+    ensures { λ r. ⌜ ((f : Feeder) (g : Network) (x : Reported) (t : ReportRead) → Held f g → ReportHeld (rowCount f) x t → rows ≡ g .rows → now (nodes .entry) ≡ g .nodes → branchesOf (now (branches .entry)) ≡ g .branches → now (names .entry) ≡ t .«node_names» → now (froms .entry) ≡ t .«from_names» → now (tos .entry) ≡ t .«to_names» → r ≡ nameDiffers f x) ⌝ }
 {
     let found = first_node_name(nodes, rows, names);
     match found {
@@ -138,15 +144,15 @@ fn absent_zero(phases: Phases, x: Three) -> bool
 }
 
 // The first node row with a voltage on an absent phase. The source has all phases.
-fn first_absent(branches: [Branch; 201], rows: usize, voltages: [Three; 201]) -> Found
+fn first_absent(branches: &Branches, rows: usize, voltages: &Threes) -> Found
     requires { ⌜ rows ≤ 200 ⌝ }
-    ensures { λ r. ⌜ r ≡ nodeScan (absentDiffers branches voltages) rows ⌝ }
+    ensures { λ r. ⌜ r ≡ nodeScan (absentDiffers (branchesOf (now (branches .entry))) (threesOf (now (voltages .entry)))) rows ⌝ }
 {
     let mut k = 1;
     while k <= rows {
-        let b = branches[k];
-        let v = voltages[k];
-        if !absent_zero(b.phases, v) {
+        let phases = phases_at(branches, k);
+        let v = three_at(voltages, k);
+        if !absent_zero(phases, v) {
             return Found::At(k + 2);
         }
         k += 1;
@@ -157,14 +163,14 @@ fn first_absent(branches: [Branch; 201], rows: usize, voltages: [Three; 201]) ->
 // 52: "source voltages are equal and absent phases 0".
 pub fn first_source_differs(
     source: Three,
-    branches: [Branch; 201],
+    branches: &Branches,
     rows: usize,
-    voltages: [Three; 201],
+    voltages: &Threes,
 ) -> Found
     requires { ⌜ rows ≤ 200 ⌝ }
-    ensures { λ r. ⌜ ((f : Feeder) (g : Network) (x : Reported) (t : ReportRead) → Held f g → ReportHeld (rowCount f) x t → source ≡ g .source → rows ≡ g .rows → branches ≡ g .branches → voltages ≡ t .voltages → r ≡ sourceDiffers f x) ⌝ }
+    ensures { λ r. ⌜ ((f : Feeder) (g : Network) (x : Reported) (t : ReportRead) → Held f g → ReportHeld (rowCount f) x t → source ≡ g .source → rows ≡ g .rows → branchesOf (now (branches .entry)) ≡ g .branches → threesOf (now (voltages .entry)) ≡ t .voltages → r ≡ sourceDiffers f x) ⌝ }
 {
-    let v = voltages[0];
+    let v = three_at(voltages, 0);
     if !same_three(v, source) {
         return Found::At(2);
     }
@@ -173,14 +179,14 @@ pub fn first_source_differs(
 
 // ---- 53
 // The first branch row with another current than the worked one.
-fn first_three_differs(rows: usize, reported: [Three; 201], worked: [Three; 201]) -> Found
+fn first_three_differs(rows: usize, reported: &Threes, worked: &Threes) -> Found
     requires { ⌜ rows ≤ 200 ⌝ }
-    ensures { λ r. ⌜ r ≡ rowScan (threeDiffers reported worked) rows ⌝ }
+    ensures { λ r. ⌜ r ≡ rowScan (threeDiffers (threesOf (now (reported .entry))) (threesOf (now (worked .entry)))) rows ⌝ }
 {
     let mut k = 1;
     while k <= rows {
-        let x = reported[k];
-        let y = worked[k];
+        let x = three_at(reported, k);
+        let y = three_at(worked, k);
         if !same_three(x, y) {
             return Found::At(rows + 4 + k);
         }
@@ -190,23 +196,23 @@ fn first_three_differs(rows: usize, reported: [Three; 201], worked: [Three; 201]
 }
 
 // 53: "every reported I follows from load currents at the reported V".
-pub fn first_current_differs(rows: usize, reported: [Three; 201], worked: [Three; 201]) -> Found
+pub fn first_current_differs(rows: usize, reported: &Threes, worked: &Threes) -> Found
     requires { ⌜ rows ≤ 200 ⌝ }
-    ensures { λ r. ⌜ ((f : Feeder) (x : Reported) (t : ReportRead) (i : List Three) → ReportHeld (rowCount f) x t → rows ≡ rowCount f → reported ≡ t .currents → worked ≡ kept zero3 201 i → r ≡ currentDiffers f x i) ⌝ }
+    ensures { λ r. ⌜ ((f : Feeder) (x : Reported) (t : ReportRead) (i : List Three) → ReportHeld (rowCount f) x t → rows ≡ rowCount f → threesOf (now (reported .entry)) ≡ t .currents → threesOf (now (worked .entry)) ≡ kept zero3 201 i → r ≡ currentDiffers f x i) ⌝ }
 {
     first_three_differs(rows, reported, worked)
 }
 
 // ---- 55
 // Whether each row's loss is the worked one.
-fn losses_same(rows: usize, losses: [Pair; 201], worked: [Pair; 201]) -> bool
+fn losses_same(rows: usize, losses: &Pairs, worked: &Pairs) -> bool
     requires { ⌜ rows ≤ 200 ⌝ }
-    ensures { λ r. ⌜ r ≡ all (lossesSame losses worked) (count 1 rows) ⌝ }
+    ensures { λ r. ⌜ r ≡ all (lossesSame (pairsOf (now (losses .entry))) (pairsOf (now (worked .entry)))) (count 1 rows) ⌝ }
 {
     let mut k = 1;
     while k <= rows {
-        let x = losses[k];
-        let y = worked[k];
+        let x = pair_at(losses, k);
+        let y = pair_at(worked, k);
         if !same_pair(x, y) {
             return false;
         }
@@ -216,9 +222,9 @@ fn losses_same(rows: usize, losses: [Pair; 201], worked: [Pair; 201]) -> bool
 }
 
 // The pair whose first part is the number at place k.
-fn pair_from(totals: [i64; 7], k: usize) -> Pair
+fn pair_from(totals: &[i64; 7], k: usize) -> Pair
     requires { ⌜ k ≤ 5 ⌝ }
-    ensures { λ r. ⌜ r ≡ pairFrom totals k ⌝ }
+    ensures { λ r. ⌜ r ≡ pairFrom (now (totals .entry)) k ⌝ }
 {
     let re = totals[k];
     let im = totals[k + 1];
@@ -228,15 +234,15 @@ fn pair_from(totals: [i64; 7], k: usize) -> Pair
 // 55: "losses and totals are equal". The totals' first number is the sweeps.
 pub fn totals_differ(
     rows: usize,
-    losses: [Pair; 201],
-    worked: [Pair; 201],
-    totals: [i64; 7],
+    losses: &Pairs,
+    worked: &Pairs,
+    totals: &[i64; 7],
     source: Pair,
     drawn: Pair,
     lost: Pair,
 ) -> bool
     requires { ⌜ rows ≤ 200 ⌝ }
-    ensures { λ r. ⌜ ((f : Feeder) (x : Reported) (t : ReportRead) (v i : List Three) → ReportHeld (rowCount f) x t → rows ≡ rowCount f → losses ≡ t .losses → worked ≡ kept 0c 201 (0c ∷ map (lossOf f i) (rowsOf f)) → totals ≡ t .totals → source ≡ sourcePower f i → drawn ≡ drawnPower f v → lost ≡ lostPower f i → r ≡ totalDiffers f x v i) ⌝ }
+    ensures { λ r. ⌜ ((f : Feeder) (x : Reported) (t : ReportRead) (v i : List Three) → ReportHeld (rowCount f) x t → rows ≡ rowCount f → pairsOf (now (losses .entry)) ≡ t .losses → pairsOf (now (worked .entry)) ≡ kept 0c 201 (0c ∷ map (lossOf f i) (rowsOf f)) → now (totals .entry) ≡ t .totals → source ≡ sourcePower f i → drawn ≡ drawnPower f v → lost ≡ lostPower f i → r ≡ totalDiffers f x v i) ⌝ }
 {
     if !losses_same(rows, losses, worked) {
         return true;

@@ -2,12 +2,12 @@
 use mathlib.Core.Bool.{Bool, cond, false, true}
 use mathlib.Core.List.{List, [], _++_, _∷_}
 use mathlib.Core.Path.{_∙_, _≡_, ap, ap₂, refl, sym}
-use Prim.Native.Nat.{_<_, _≤_, suc, zero, ℕ}
+use Prim.Native.Nat.{_+_, _<_, _≤_, suc, zero, ℕ}
 use native.Mathlib.Omega.{arith}
 use lib.Dec.{eqb}
-use lib.ListN.{getD, length, length-replicate, length-set, replicate, set, take}
+use lib.ListN.{getD, length, length-replicate, length-set, replicate, set}
 use Rattle.draws.specs.Draws.{DrawsOf, SmallDraws, rowOf, stateOf, worseOf}
-use Rattle.draws.specs.SumLaws.{any-next, atPlace, csum-next, csum-same, places-next, sum3-same, tab-is}
+use Rattle.draws.specs.SumLaws.{any-next, atPlace, csum-next, csum-same, places-next, sum3-same, tab-is, tab-next}
 use Rattle.draws.specs.declared.Draws.{Draws}
 use Rattle.draws.specs.declared.Row.{Row}
 use Rattle.draws.specs.declared.State.the-variants.{Fine}
@@ -17,12 +17,12 @@ use Rattle.equations.specs.Sizes.{Within3, beyond-false, spread-within, within-
 use Rattle.equations.specs.SumSizes.{csum-within, sum3-within}
 use Rattle.feeder.specs.Feeder.{Feeder}
 use Rattle.feeder.specs.Network.{loadArray, noLoad}
-use Rattle.feeder.specs.NetworkLaws.{take-kept}
+use Rattle.feeder.specs.NetworkLaws.{getD-kept}
 use Rattle.feeder.specs.declared.Load.{Load}
 use Rattle.feeder.specs.declared.Three.{Three}
 use Rattle.integers.specs.Bools.{cond-ind}
 use Rattle.integers.specs.ListLaws.{All, all-map, all-map2, any-false, at-all}
-use Rattle.integers.specs.Lists.{any, csum}
+use Rattle.integers.specs.Lists.{any, csum, tab}
 use Rattle.integers.specs.PairLaws.{Within}
 use Rattle.integers.specs.Pairs.{0c, _+c_, _·*_, scaled}
 use Rattle.integers.specs.declared.Pair.{Pair}
@@ -90,10 +90,10 @@ partAt current k = atPlace (λ l. l .node) (λ l. spreadOf l (current l)) k
 abbrev powerOf : List Three → (Load → Pair) → Load → Pair
 powerOf v current l = voltageOn l v ·* current l
 
-pub record Summed (ls : List Load) (v : List Three) (r : Draws) : Type 0 where
+pub record Summed (ls : List Load) (v : List Three) (r : Draws) (own : List Three) : Type 0 where
   pub state : r .state ≡ stateOf (any (lacking v) ls) (any (large v) ls)
-  pub places : length (r .own) ≡ 201
-  pub own : (k : ℕ) → getD (r .own) k zero3 ≡ sum3 (partAt (drawnCurrent v) k) ls
+  pub places : length own ≡ 201
+  pub own-is : (k : ℕ) → getD own k zero3 ≡ sum3 (partAt (drawnCurrent v) k) ls
   pub drawn : r .drawn ≡ csum (powerOf v (drawnCurrent v)) ls
 
 blank : (n k : ℕ) → getD (replicate n zero3) k zero3 ≡ zero3
@@ -101,40 +101,40 @@ blank zero k = refl
 blank (suc n) zero = refl
 blank (suc n) (suc k) = blank n k
 
-pub summed-none : (v : List Three) → Summed [] v (record { state = Fine; own = replicate 201 zero3; drawn = 0c })
+pub summed-none : (v : List Three) → Summed [] v (record { state = Fine; drawn = 0c }) (replicate 201 zero3)
 unfolding any sum3 csum
-summed-none v = record { state = refl; places = length-replicate 201 zero3; own = blank 201; drawn = refl }
+summed-none v = record { state = refl; places = length-replicate 201 zero3; own-is = blank 201; drawn = refl }
 
-pub summed-next : (v : List Three) (ls : List Load) (l : Load) (w : Row) (r s : Draws) → l .node < 201 → w ≡ rowDrawn v l → Summed ls v r
+pub summed-next : (v : List Three) (ls : List Load) (l : Load) (w : Row) (r s : Draws) (own next : List Three) → l .node < 201 → w ≡ rowDrawn v l → Summed ls v r own
     → s .state ≡ worseOf (r .state) (w .state)
-    → s .own ≡ set (r .own) (l .node) (plus3 (getD (r .own) (l .node) zero3) (spreadOf l (w .current)))
+    → next ≡ set own (l .node) (plus3 (getD own (l .node) zero3) (spreadOf l (w .current)))
     → s .drawn ≡ r .drawn +c (voltageOn l v ·* w .current)
-    → Summed (ls ++ (l ∷ [])) v s
-summed-next v ls l w r s n e h p q d =
+    → Summed (ls ++ (l ∷ [])) v s next
+summed-next v ls l w r s own next n e h p q d =
     record {
       state =
           p
           ∙ ap₂ worseOf (h .state) (ap (λ (x : Row). x .state) e ∙ row-state v l)
           ∙ worse-state (any (lacking v) ls) (any (large v) ls) (lacking v l) (large v l)
           ∙ sym (ap₂ stateOf (any-next (lacking v) ls l) (any-next (large v) ls l));
-      places = ap length q ∙ length-set (r .own) (l .node) _ ∙ h .places;
-      own = λ k.
+      places = ap length q ∙ length-set own (l .node) _ ∙ h .places;
+      own-is = λ k.
           ap (λ (x : List Three). getD x k zero3) q
-          ∙ ap (λ (x : Row). getD (set (r .own) (l .node) (plus3 (getD (r .own) (l .node) zero3) (spreadOf l (x .current)))) k zero3) e
-          ∙ places-next (λ y. y .node) (λ y. spreadOf y (drawnCurrent v y)) ls l (r .own) (omega (arith, h .places)) (h .own) k;
+          ∙ ap (λ (x : Row). getD (set own (l .node) (plus3 (getD own (l .node) zero3) (spreadOf l (x .current)))) k zero3) e
+          ∙ places-next (λ y. y .node) (λ y. spreadOf y (drawnCurrent v y)) ls l own (omega (arith, h .places)) (h .own-is) k;
       drawn =
           d
           ∙ ap₂ _+c_ (h .drawn) (ap (λ (x : Row). voltageOn l v ·* x .current) e)
           ∙ sym (csum-next (powerOf v (drawnCurrent v)) ls l);
     }
 
-pub summed-small : (v : List Three) (ls : List Load) (r : Draws) → length ls ≤ 300 → ((k : ℕ) → Within3 2000000 (getD v k zero3)) → Summed ls v r → SmallDraws r
+pub summed-small : (v : List Three) (ls : List Load) (r : Draws) (own : List Three) → length ls ≤ 300 → ((k : ℕ) → Within3 2000000 (getD v k zero3)) → Summed ls v r own → SmallDraws r own
 unfolding voltageOn
-summed-small v ls r n h s =
+summed-small v ls r own n h s =
     record {
-      own = λ k.
+      own-small = λ k.
           let p : Load → Three = partAt (drawnCurrent v) k in
-          rw (s .own k) (sum3-within 300 2000000 p ls n (at-all (λ l. Within3 2000000 (p l)) ls (λ i d q. part k (getD ls i d))));
+          rw (s .own-is k) (sum3-within 300 2000000 p ls n (at-all (λ l. Within3 2000000 (p l)) ls (λ i d q. part k (getD ls i d))));
       drawn =
           let p : Load → Pair = powerOf v (drawnCurrent v) in
           rw (s .drawn) (csum-within 300 8000000000000 p ls n (at-all (λ l. Within 8000000000000 (p l)) ls (λ i d q. power (getD ls i d))));
@@ -158,15 +158,15 @@ fine-rows v ls e =
     all-map2 {P = λ l. lacking v l ≡ false} {Q = λ l. large v l ≡ false} {R = Same v} ls (row-current v)
     (any-false (lacking v) ls (h .0)) (any-false (large v) ls (h .1))
 
-pub summed-draws : (f : Feeder) (v : List Three) (r : Draws) → Summed (f .loads) v r → DrawsOf f v r
+pub summed-draws : (f : Feeder) (v : List Three) (r : Draws) (own : List Three) → Summed (f .loads) v r own → DrawsOf f v r own
 unfolding zeroVoltage loadBeyond loadsAt drawnPower
-summed-draws f v r s =
+summed-draws f v r own s =
     record {
       state = s .state;
-      own = λ e.
-          tab-is (loadsAt f v) 201 (r .own) zero3 (s .places) (λ k q.
+      own-is = λ e.
+          tab-is (loadsAt f v) 201 own zero3 (s .places) (λ k q.
           let p : (Load → Pair) → Load → Three = λ c. partAt c k in
-          s .own k ∙ sum3-same (p (drawnCurrent v)) (p (loadCurrent v)) (f .loads)
+          s .own-is k ∙ sum3-same (p (drawnCurrent v)) (p (loadCurrent v)) (f .loads)
           (all-map {P = Same v} {Q = λ l. p (drawnCurrent v) l ≡ p (loadCurrent v) l} (f .loads)
           (λ l h. ap (λ (i : Pair). cond (eqb (l .node) k) (spreadOf l i) zero3) h) (rows e)));
       drawn = λ e.
@@ -178,6 +178,18 @@ summed-draws f v r s =
     rows : r .state ≡ Fine → All (Same v) (f .loads)
     rows e = fine-rows v (f .loads) (sym (s .state) ∙ e)
 
--- the rows of the array are the feeder's
-pub all-rows : (f : Feeder) (ls : List Load) (n k : ℕ) → k ≡ n → n ≤ 300 → ls ≡ loadArray f → n ≡ length (f .loads) → take k ls ≡ f .loads
-all-rows f ls n k z h p q = ap₂ take (z ∙ q) p ∙ take-kept noLoad 300 (f .loads) (omega arith)
+-- ---- the first n rows of an array
+abbrev pub firstRows : List Load → ℕ → List Load
+firstRows ls n = tab (λ k. getD ls k noLoad) 0 n
+
+pub rows-next : (ls : List Load) (n : ℕ) → firstRows ls (n + 1) ≡ firstRows ls n ++ (getD ls n noLoad ∷ [])
+rows-next ls n =
+    let z : n + 1 ≡ suc n = omega arith in
+    let o : 0 + n ≡ n = omega arith in
+    rw z (tab-next (λ k. getD ls k noLoad) 0 n ∙ ap (λ (k : ℕ). firstRows ls n ++ (getD ls k noLoad ∷ [])) o)
+
+-- they are the feeder's
+pub all-rows : (f : Feeder) (ls : List Load) (n k : ℕ) → k ≡ n → n ≤ 300 → ls ≡ loadArray f → n ≡ length (f .loads) → firstRows ls k ≡ f .loads
+all-rows f ls n k z h p q =
+    sym (tab-is (λ i. getD ls i noLoad) k (f .loads) noLoad (sym (z ∙ q)) (λ i j.
+    sym (ap (λ (l : List Load). getD l i noLoad) p ∙ getD-kept noLoad 300 (f .loads) i (omega arith))))

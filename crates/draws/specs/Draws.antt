@@ -7,7 +7,7 @@ use lib.ListN.{getD}
 use Rattle.draws.specs.declared.Draws.{Draws}
 use Rattle.draws.specs.declared.Row.{Row}
 use Rattle.draws.specs.declared.State.{State}
-use Rattle.draws.specs.declared.State.the-variants.{Dead, Fine, Large}
+use Rattle.draws.specs.declared.State.the-variants.{Beyond, Fine, ZeroVoltage}
 use Rattle.equations.specs.Equations.{drawnPower, loadBeyond, loadsAt, zero3, zeroVoltage}
 use Rattle.equations.specs.Limits.{LoadOk}
 use Rattle.equations.specs.Sizes.{Within3}
@@ -23,19 +23,19 @@ use Rattle.loads.specs.declared.Drawn.the-variants.{AtZeroVoltage, Taken, TooLa
 
 -- 30: "load of kind P or I at zero voltage", of any row; else 31: "load current re or im beyond ±2,000,000", of any row
 abbrev pub stateOf : Bool → Bool → State
-stateOf true large = Dead
-stateOf false true = Large
+stateOf true large = ZeroVoltage
+stateOf false true = Beyond
 stateOf false false = Fine
 
--- what the rows of f draw at the voltages v: the load currents at each node, and the power drawn
-pub record DrawsOf (f : Feeder) (v : List Three) (r : Draws) : Type 0 where
+-- what the rows of f draw at the voltages v: the load currents at each node are `own`, and the power drawn
+pub record DrawsOf (f : Feeder) (v : List Three) (r : Draws) (own : List Three) : Type 0 where
   pub state : r .state ≡ stateOf (zeroVoltage f v) (loadBeyond f v)
-  pub own : r .state ≡ Fine → r .own ≡ tab (loadsAt f v) 0 201
+  pub own-is : r .state ≡ Fine → own ≡ tab (loadsAt f v) 0 201
   pub drawn : r .state ≡ Fine → r .drawn ≡ drawnPower f v
 
 -- 300 rows of at most 2·10^6, and of at most 8·10^12
-pub record SmallDraws (r : Draws) : Type 0 where
-  pub own : (k : ℕ) → Within3 600000000 (getD (r .own) k zero3)
+pub record SmallDraws (r : Draws) (own : List Three) : Type 0 where
+  pub own-small : (k : ℕ) → Within3 600000000 (getD own k zero3)
   pub drawn : Within 2400000000000000 (r .drawn)
 
 -- what the code needs of the rows and the voltages
@@ -49,13 +49,13 @@ pub record LoadsOk (loads : List Load) (n : ℕ) (v : List Three) : Type 0 where
 -- a row that is refused adds no current
 abbrev pub rowOf : Drawn → Row
 rowOf (Taken i) = record { state = Fine; current = i }
-rowOf AtZeroVoltage = record { state = Dead; current = 0c }
-rowOf TooLarge = record { state = Large; current = 0c }
+rowOf AtZeroVoltage = record { state = ZeroVoltage; current = 0c }
+rowOf TooLarge = record { state = Beyond; current = 0c }
 
 -- 30 of any row before 31 of any row
 abbrev pub worseOf : State → State → State
 worseOf Fine t = t
-worseOf Large Fine = Large
-worseOf Large Large = Large
-worseOf Large Dead = Dead
-worseOf Dead t = Dead
+worseOf Beyond Fine = Beyond
+worseOf Beyond Beyond = Beyond
+worseOf Beyond ZeroVoltage = ZeroVoltage
+worseOf ZeroVoltage t = ZeroVoltage

@@ -13,7 +13,7 @@ use Rattle.equations.specs.Equations.{plus3, sum3, zero3}
 use Rattle.equations.specs.ThreeLaws.{plus3-assoc, plus3-comm, plus3-idr}
 use Rattle.feeder.specs.declared.Three.{Three}
 use Rattle.integers.specs.ListLaws.{All, getD-tab, length-tab}
-use Rattle.integers.specs.Lists.{any, count, csum, tab}
+use Rattle.integers.specs.Lists.{any, csum, tab}
 use Rattle.integers.specs.PairLaws.{+c-assoc, +c-comm}
 use Rattle.integers.specs.Pairs.{0c, _+c_}
 use Rattle.integers.specs.declared.Pair.{Pair}
@@ -42,14 +42,11 @@ any-next f (y ∷ l) x = go (f y) (any f l) (any-next f l x)
     go true t e = refl
     go false t e = e
 
--- k, k + 1, .., one of them more
-pub count-next : (k n : ℕ) → count k (suc n) ≡ count k n ++ ((k + n) ∷ [])
-unfolding count tab
-count-next k zero = let z : k + 0 ≡ k = omega arith in rw z
-count-next k (suc n) = let z : k + suc n ≡ (k + 1) + n = omega arith in rw z (ap (λ (l : List ℕ). k ∷ l) (count-next (k + 1) n))
-
-pub csum-count-next : (f : ℕ → Pair) (k n : ℕ) → csum f (count k (suc n)) ≡ csum f (count k n) +c f (k + n)
-csum-count-next f k n = ap (csum f) (count-next k n) ∙ csum-next f (count k n) (k + n)
+-- a table, with one place more
+pub tab-next : {X : Type 0} (f : ℕ → X) (k n : ℕ) → tab f k (suc n) ≡ tab f k n ++ (f (k + n) ∷ [])
+unfolding tab
+tab-next f k zero = let z : k + 0 ≡ k = omega arith in rw z
+tab-next f k (suc n) = let z : k + suc n ≡ (k + 1) + n = omega arith in rw z (ap (λ (l : List _). f k ∷ l) (tab-next f (k + 1) n))
 
 -- what a row adds at place k: it has one place
 abbrev pub atPlace : {X : Type 0} → (X → ℕ) → (X → Three) → ℕ → X → Three

@@ -1,13 +1,19 @@
 // What the load rows draw at given voltages. specs/Draws.antt says what that is.
 ghost use mathlib.Core.Path.{_≡_};
-ghost use lib.ListN.{length};
+ghost use lib.ListN.{length, replicate};
 ghost use Rattle.feeder.specs.Feeder.{Feeder};
 ghost use Rattle.feeder.specs.Network.{loadArray};
-ghost use Rattle.equations.specs.Equations.{mix, phaseSigns};
+ghost use Rattle.equations.specs.Equations.{mix, phaseSigns, zero3};
 ghost use Rattle.equations.specs.Limits.{LoadOk};
 ghost use Rattle.equations.specs.Sizes.{Within3};
 ghost use Rattle.loads.specs.Loads.{drawnBy};
+ghost use Rattle.arrays.specs.Arrays.{loadsOf, threesOf};
 ghost use Rattle.draws.specs.Draws.{DrawsOf, LoadsOk, SmallDraws, rowOf, worseOf};
+use arrays::Loads;
+use arrays::Threes;
+use arrays::load_at;
+use arrays::put_three;
+use arrays::three_at;
 use devices::threes;
 use feeder::Load;
 use feeder::Three;
@@ -15,17 +21,16 @@ use integers::Pair;
 use integers::pairs;
 use loads::Drawn;
 
-// Dead: a row is at zero voltage, document 01's refusal 30. Large: none is, and a row's current is beyond its limit, refusal 31.
+// ZeroVoltage: a row is at zero voltage, document 01's refusal 30. Beyond: none is, and a row's current is beyond its limit, refusal 31.
 pub enum State {
     Fine,
-    Large,
-    Dead,
+    Beyond,
+    ZeroVoltage,
 }
 
-// The rows' state, and, where it is Fine, the current drawn at each node and the power drawn.
+// The rows' state, and, where it is Fine, the power drawn.
 pub struct Draws {
     pub state: State,
-    pub own: [Three; 201],
     pub drawn: Pair,
 }
 
@@ -41,12 +46,12 @@ fn worse(s: State, t: State) -> State
 {
     match s {
         State::Fine => t,
-        State::Large => match t {
-            State::Fine => State::Large,
-            State::Large => State::Large,
-            State::Dead => State::Dead,
+        State::Beyond => match t {
+            State::Fine => State::Beyond,
+            State::Beyond => State::Beyond,
+            State::ZeroVoltage => State::ZeroVoltage,
         },
-        State::Dead => State::Dead,
+        State::ZeroVoltage => State::ZeroVoltage,
     }
 }
 
@@ -63,51 +68,41 @@ fn row_at(load: Load, v: Three) -> Row
             current: i,
         },
         Drawn::AtZeroVoltage => Row {
-            state: State::Dead,
+            state: State::ZeroVoltage,
             current: Pair { re: 0, im: 0 },
         },
         Drawn::TooLarge => Row {
-            state: State::Large,
+            state: State::Beyond,
             current: Pair { re: 0, im: 0 },
         },
     }
 }
 
-// What the first `count` load rows draw at the voltages v.
-pub fn draw(loads: [Load; 300], count: usize, v: [Three; 201]) -> Draws
-    requires { ⌜ LoadsOk loads count v ⌝ }
-    ensures value { λ r. ⌜ ((f : Feeder) → loads ≡ loadArray f → count ≡ length (f .loads) → DrawsOf f v r) ⌝ }
-    ensures size { λ r. ⌜ SmallDraws r ⌝ }
+// What the first `count` load rows draw at the voltages v: `own`, zero at all places, becomes the current drawn at each node.
+pub fn draw(loads: &Loads, count: usize, v: &Threes, own: &mut Threes) -> Draws
+    requires { ⌜ LoadsOk (loadsOf (now loads)) count (threesOf (now v)) ⌝ }
+    requires { ⌜ threesOf (now own) ≡ replicate 201 zero3 ⌝ }
+    ensures value { λ r. ⌜ ((f : Feeder) → loadsOf (now (loads .entry)) ≡ loadArray f → count ≡ length (f .loads) → DrawsOf f (threesOf (now (v .entry))) r (threesOf (now (own .exit)))) ⌝ }
+    ensures size { λ r. ⌜ SmallDraws r (threesOf (now (own .exit))) ⌝ }
 {
-    let zero = Pair { re: 0, im: 0 };
-    let none = Three {
-        a: zero,
-        b: zero,
-        c: zero,
-    };
-    let mut own = [none; 201];
-    let mut drawn = zero;
+    let mut drawn = Pair { re: 0, im: 0 };
     let mut state = State::Fine;
     let mut l = 0;
     while l < count {
-        let load = loads[l];
+        let load = load_at(loads, l);
         let node = load.node;
-        let u = v[node];
+        let u = three_at(v, node);
         let row = row_at(load, u);
         let i = row.current;
         let more = loads::spread(load, i);
-        let held = own[node];
+        let held = three_at(own, node);
         let sum = threes::plus(held, more);
-        own[node] = sum;
+        put_three(own, node, sum);
         let power = loads::load_power(load, u, i);
         drawn = pairs::add(drawn, power);
         let t = row.state;
         state = worse(state, t);
         l += 1;
     }
-    Draws {
-        state: state,
-        own: own,
-        drawn: drawn,
-    }
+    Draws { state, drawn }
 }

@@ -58,7 +58,7 @@ pub row-count : (r : Rows) → rowCount (feederOf r) ≡ length (r .branches)
 unfolding feederOf
 row-count r = length-map (r .branches) (branchOf (nodesOf r))
 
--- node b hangs below the source: as many steps up as there are rows arrive there
+-- node b is fed from the source: as many steps up as there are rows arrive there
 pub record Reached (f : Feeder) (b : ℕ) : Type 0 where
   pub row : 0 < b
   pub steps : above (parent f) (rowCount f) b ≡ 0

@@ -10,6 +10,7 @@ pub mod Ring
 pub mod RoundingLaws
 pub mod Near
 pub mod RootLaws
+pub mod Newton
 pub mod PairLaws
 pub mod ListLaws
 pub mod Machine

@@ -6,6 +6,7 @@ ghost use lib.Signed.{_<ℤ_};
 ghost use mir.Syntax.{w64};
 ghost use mir.Val.{SFits};
 ghost use Rattle.integers.specs.Rounding.{rnd};
+ghost use Rattle.integers.specs.Newton.{Guess, Half};
 ghost use Rattle.integers.specs.Root.{root};
 ghost use Rattle.integers.specs.Pairs.{inside};
 
@@ -113,21 +114,36 @@ pub fn rnd_to(a: i64, d: u64) -> i64
     rnd_div(a, b)
 }
 
-// The greatest m with m * m <= n, by halving the gap between a number whose square is at most n
-// and one whose square is above n. The root of 2 ^ 62 is 2 ^ 31, so the upper one starts at 2 ^ 31 + 1.
+// The mean of 2 ^ s and n / 2 ^ s, which is at least the root of n.
+fn mean_guess(n: u64, s: u32) -> u64
+    requires { ⌜ Half n s ⌝ }
+    ensures { λ r. ⌜ Guess n r ⌝ }
+{
+    let power = 1u64 << s;
+    (power + n / power) / 2
+}
+
+// A first guess at the root, off by at most a sixteenth of it: 2 ^ s with half of the length of n in bits for s, which the count of its leading zeros
+// tells, is off by at most a factor of root 2, and the mean is nearer.
+fn first_guess(n: u64) -> u64
+    requires { ⌜ n ≤ 2 ^ 62 ⌝ }
+    ensures { λ r. ⌜ Guess n r ⌝ }
+{
+    let half = (64 - u64::leading_zeros(n)) / 2;
+    if half < 31 {
+        return mean_guess(n, half);
+    }
+    mean_guess(n, 31)
+}
+
+// The greatest m with m * m <= n, by Newton's iteration: while the square of a guess is above n, the next guess is smaller and still at least the root.
 pub fn root(n: u64) -> u64
     requires { ⌜ n ≤ 2 ^ 62 ⌝ }
     ensures { λ r. ⌜ r ≡ root n ⌝ }
 {
-    let mut lo: u64 = 0;
-    let mut hi: u64 = 0x8000_0001;
-    while lo + 1 < hi {
-        let mid = (lo + hi) / 2;
-        if mid * mid <= n {
-            lo = mid;
-        } else {
-            hi = mid;
-        }
+    let mut m = first_guess(n);
+    while n < m * m {
+        m = (m + n / m) / 2;
     }
-    lo // its square is at most n, and that of lo + 1 = hi is above it
+    m
 }

@@ -8,8 +8,10 @@ use lib.ListN.{getD, length, replicate}
 use Rattle.answers.specs.Answers.{Outcome, _>>_, good, refuseIf, refused}
 use Rattle.answers.specs.declared.Refusal.{Refusal}
 use Rattle.answers.specs.declared.Refusal.the-variants.{CurrentBeyond, LoadBeyond, NotSettled, VoltageBeyond, ZeroVoltage}
+use Rattle.arrays.specs.ArrayLaws.{spare-blank}
+use Rattle.arrays.specs.Arrays.{Spare}
 use Rattle.equations.specs.Equations.{at, currentBeyond, currents, loadBeyond, voltageBeyond, voltages, zero3, zeroVoltage}
-use Rattle.equations.specs.Sizes.{Within3}
+use Rattle.equations.specs.Sizes.{within3-zero}
 use Rattle.feeder.specs.Feeder.{Feeder, abc, rowCount, rowsOf}
 use Rattle.feeder.specs.Network.{kept}
 use Rattle.feeder.specs.declared.Three.{Three}
@@ -19,7 +21,7 @@ use Rattle.integers.specs.Lists.{all, count}
 use Rattle.integers.specs.Pairs.{close}
 use Rattle.ladder.specs.Ladder.{Solution, settled, solution, sweep}
 use Rattle.ladder.specs.LadderLaws.{sweep-step}
-use Rattle.ladder.specs.Runs.{SmallRun, SmallSwept, SolvedAs, SweptIs, stepAt, stepOf, stillAt}
+use Rattle.ladder.specs.Runs.{Room, SmallRun, SmallSwept, SolvedAs, SweptIs, stepAt, stepOf, stillAt}
 use Rattle.ladder.specs.declared.Run.{Run}
 use Rattle.ladder.specs.declared.Solving.the-variants.{Solved, Unsolved}
 use Rattle.ladder.specs.declared.Step.{Step}
@@ -27,7 +29,6 @@ use Rattle.ladder.specs.declared.Step.the-variants.{Again, Settled, Stop
 use Rattle.ladder.specs.declared.Swept.{Swept}
 use Rattle.passes.specs.Passes.{DownwardIs}
 use Rattle.passes.specs.Same.{Same, currents-same, drawn-same, load-beyond-same, same-kept, voltages-same, zero-voltage-same}
-use Rattle.passes.specs.declared.Pass.{Pass}
 use Rattle.sweeps.specs.Sweeps.{SmallCurrents, WorkedIs, workOf}
 use Rattle.sweeps.specs.declared.Worked.{Worked}
 use Rattle.sweeps.specs.declared.Work.the-variants.{CurrentBeyond as CurrentWork, Fine, LoadBeyond as LoadWork, ZeroVoltage as ZeroWork}
@@ -58,6 +59,10 @@ zeros-place (suc n) (suc k) = zeros-place n k
 pub same-zeros : (n : ℕ) → Same (replicate n zero3) []
 same-zeros n = record { place = zeros-place n }
 
+-- an array as it is made has room for voltages
+pub room-made : (rows : ℕ) → Room rows (replicate 201 zero3)
+room-made rows = record { spare = spare-blank rows; each = λ k. rw (zeros-place 201 k) within3-zero }
+
 -- an array and the list that it keeps
 pub same-array : (v l : List Three) → v ≡ kept zero3 201 l → length l ≤ 201 → Same v l
 same-array v l e h = let w = same-kept 201 l h in record { place = λ k. ap (λ (x : List Three). getD x k zero3) e ∙ w .place k }
@@ -76,17 +81,17 @@ settled-is f rows tol v w m e t h = there ∙ settled-same f {v = v} {l = v} {w 
 
 -- ---- a sweep
 -- the voltages from an array of currents are those from the list
-voltages-far : (f : Feeder) (v : List Three) (x : Worked) → WorkedIs f v x → rowCount f ≤ 200 → x .work ≡ Fine → voltages f (x .currents) ≡ voltages f (currents f v)
-voltages-far f v x of few fine = voltages-same f (same-array (x .currents) (currents f v) (of .currents-are fine) (currents-short f v few))
+voltages-far : (f : Feeder) (v : List Three) (x : Worked) (i : List Three) → WorkedIs f v x i → rowCount f ≤ 200 → x .work ≡ Fine → voltages f i ≡ voltages f (currents f v)
+voltages-far f v x i of few fine = voltages-same f (same-array i (currents f v) (of .currents-are fine) (currents-short f v few))
 
-pub same-next : (f : Feeder) (v : List Three) (x : Worked) → WorkedIs f v x → rowCount f ≤ 200 → x .work ≡ Fine → (p : Pass) → DownwardIs f (x .currents) p → p .ok ≡ true
-    → Same (p .at) (voltages f (currents f v))
-same-next f v x of few fine p down o =
-    same-array (p .at) (voltages f (currents f v)) (rw (voltages-far f v x of few fine) at (down .at-is o)) (voltages-short f (currents f v) few)
+pub same-next : (f : Feeder) (v : List Three) (x : Worked) (i : List Three) → WorkedIs f v x i → rowCount f ≤ 200 → x .work ≡ Fine → (ok : Bool) (next : List Three) → DownwardIs f i ok next → ok ≡ true
+    → Same next (voltages f (currents f v))
+same-next f v x i of few fine ok next down o =
+    same-array next (voltages f (currents f v)) (rw (voltages-far f v x i of few fine) at (down .at-is o)) (voltages-short f (currents f v) few)
 
-module _ (f : Feeder) (v : List Three) (k : ℕ) (x : Worked) (of : WorkedIs f v x) (r : Swept) where
+module _ (f : Feeder) (v : List Three) (k : ℕ) (x : Worked) (i : List Three) (of : WorkedIs f v x i) (r : Swept) (next : List Three) where
   -- a refusal
-  stops : (y : Refusal) → r .step ≡ Stopped y → Stopped y ≡ stepAt f v k → SweptIs f v k r
+  stops : (y : Refusal) → r .step ≡ Stopped y → Stopped y ≡ stepAt f v k → SweptIs f v k r next i
   stops y e q = record { step-is = e ∙ q; next-is = λ t. never (sym e ∙ t); currents-are = λ t. stays (sym e ∙ t); drawn-is = λ t. stays (sym e ∙ t) }
     where
       never : {X : Type 0} → Stopped y ≡ Again → X
@@ -95,7 +100,7 @@ module _ (f : Feeder) (v : List Three) (k : ℕ) (x : Worked) (of : WorkedIs f v
       stays : {X : Type 0} → Stopped y ≡ Settled → X
       stays e = let z : _≡_ {A = ℕ} 0 1 = cc in absurd (omega arith)
 
-  pub swept-zero : x .work ≡ ZeroWork → r .step ≡ Stopped (ZeroVoltage k) → SweptIs f v k r
+  pub swept-zero : x .work ≡ ZeroWork → r .step ≡ Stopped (ZeroVoltage k) → SweptIs f v k r next i
   swept-zero w e = stops (ZeroVoltage k) e (go (zeroVoltage f v) (loadBeyond f v) (currentBeyond f (currents f v)) _ _ (sym (of .work-is) ∙ w))
     where
       go : (a b c d s : Bool) → workOf a b c ≡ ZeroWork → Stopped (ZeroVoltage k) ≡ stepOf k a b c d s
@@ -104,7 +109,7 @@ module _ (f : Feeder) (v : List Three) (k : ℕ) (x : Worked) (of : WorkedIs f v
       go false false true d s e = let z : _≡_ {A = ℕ} 0 1 = cc in absurd (omega arith)
       go false false false d s e = let z : _≡_ {A = ℕ} 0 1 = cc in absurd (omega arith)
 
-  pub swept-load : x .work ≡ LoadWork → r .step ≡ Stopped (LoadBeyond k) → SweptIs f v k r
+  pub swept-load : x .work ≡ LoadWork → r .step ≡ Stopped (LoadBeyond k) → SweptIs f v k r next i
   swept-load w e = stops (LoadBeyond k) e (go (zeroVoltage f v) (loadBeyond f v) (currentBeyond f (currents f v)) _ _ (sym (of .work-is) ∙ w))
     where
       go : (a b c d s : Bool) → workOf a b c ≡ LoadWork → Stopped (LoadBeyond k) ≡ stepOf k a b c d s
@@ -113,7 +118,7 @@ module _ (f : Feeder) (v : List Three) (k : ℕ) (x : Worked) (of : WorkedIs f v
       go false false true d s e = let z : _≡_ {A = ℕ} 0 1 = cc in absurd (omega arith)
       go false false false d s e = let z : _≡_ {A = ℕ} 0 1 = cc in absurd (omega arith)
 
-  pub swept-current : x .work ≡ CurrentWork → r .step ≡ Stopped (CurrentBeyond k) → SweptIs f v k r
+  pub swept-current : x .work ≡ CurrentWork → r .step ≡ Stopped (CurrentBeyond k) → SweptIs f v k r next i
   swept-current w e = stops (CurrentBeyond k) e (go (zeroVoltage f v) (loadBeyond f v) (currentBeyond f (currents f v)) _ _ (sym (of .work-is) ∙ w))
     where
       go : (a b c d s : Bool) → workOf a b c ≡ CurrentWork → Stopped (CurrentBeyond k) ≡ stepOf k a b c d s
@@ -123,9 +128,9 @@ module _ (f : Feeder) (v : List Three) (k : ℕ) (x : Worked) (of : WorkedIs f v
       go false false false d s e = let z : _≡_ {A = ℕ} 0 1 = cc in absurd (omega arith)
 
   -- 33, and whether the voltages settled
-  module _ (few : rowCount f ≤ 200) (p : Pass) (down : DownwardIs f (x .currents) p) (fine : x .work ≡ Fine) where
-    far : voltages f (x .currents) ≡ voltages f (currents f v)
-    far = voltages-far f v x of few fine
+  module _ (few : rowCount f ≤ 200) (ok : Bool) (down : DownwardIs f i ok next) (fine : x .work ≡ Fine) where
+    far : voltages f i ≡ voltages f (currents f v)
+    far = voltages-far f v x i of few fine
 
     -- the step where nothing of 30 to 32 holds
     late : (d s : Bool) → voltageBeyond f (voltages f (currents f v)) ≡ d → settled f v (voltages f (currents f v)) ≡ s → stepAt f v k ≡ stepOf k false false false d s
@@ -137,60 +142,63 @@ module _ (f : Feeder) (v : List Three) (k : ℕ) (x : Worked) (of : WorkedIs f v
         go false false true y z e q t = let z : _≡_ {A = ℕ} 0 1 = cc in absurd (omega arith)
         go false false false y z e q t = rw (q, t)
 
-    high-is : p .ok ≡ not (voltageBeyond f (voltages f (currents f v)))
+    high-is : ok ≡ not (voltageBeyond f (voltages f (currents f v)))
     high-is = rw far at (down .ok-is)
 
-    turned : (b c : Bool) → p .ok ≡ not b → p .ok ≡ c → b ≡ not c
+    turned : (b c : Bool) → ok ≡ not b → ok ≡ c → b ≡ not c
     turned true true e q = sym (sym e ∙ q)
     turned true false e q = refl
     turned false true e q = refl
     turned false false e q = sym (sym e ∙ q)
 
-    pub swept-high : p .ok ≡ false → r .step ≡ Stopped (VoltageBeyond k) → SweptIs f v k r
+    pub swept-high : ok ≡ false → r .step ≡ Stopped (VoltageBeyond k) → SweptIs f v k r next i
     swept-high o e = stops (VoltageBeyond k) e (sym (late true _ (turned _ false high-is o) refl))
 
-    pub swept-settled : p .ok ≡ true → settled f v (voltages f (currents f v)) ≡ true → r .step ≡ Settled → r .currents ≡ x .currents → r .drawn ≡ x .drawn → SweptIs f v k r
-    swept-settled o t e i s = record {
+    pub swept-settled : ok ≡ true → settled f v (voltages f (currents f v)) ≡ true → r .step ≡ Settled → r .drawn ≡ x .drawn → SweptIs f v k r next i
+    swept-settled o t e s = record {
       step-is = e ∙ sym (late false true (turned _ true high-is o) t);
       next-is = λ q. (let y = sym e ∙ q in let z : _≡_ {A = ℕ} 0 1 = cc in absurd (omega arith));
-      currents-are = λ q. i ∙ of .currents-are fine;
+      currents-are = λ q. of .currents-are fine;
       drawn-is = λ q. s ∙ of .drawn-is fine;
     }
 
-    pub swept-again : p .ok ≡ true → settled f v (voltages f (currents f v)) ≡ false → r .step ≡ Again → r .voltages ≡ p .at → SweptIs f v k r
-    swept-again o t e i = record {
+    pub swept-again : ok ≡ true → settled f v (voltages f (currents f v)) ≡ false → r .step ≡ Again → SweptIs f v k r next i
+    swept-again o t e = record {
       step-is = e ∙ sym (late false false (turned _ true high-is o) t);
-      next-is = λ q. i ∙ (rw far at (down .at-is o));
+      next-is = λ q. rw far at (down .at-is o);
       currents-are = λ q. (let y = sym e ∙ q in let z : _≡_ {A = ℕ} 0 1 = cc in absurd (omega arith));
       drawn-is = λ q. (let y = sym e ∙ q in let z : _≡_ {A = ℕ} 0 1 = cc in absurd (omega arith));
     }
 
-pub small-stopped : (rows : ℕ) (y : Refusal) (r : Swept) → r .step ≡ Stopped y → SmallSwept rows r
-small-stopped rows y r e = record {
-  voltages-small = λ k t. (let b = sym e ∙ t in let z : _≡_ {A = ℕ} 0 1 = cc in absurd (omega arith));
+pub small-stopped : (rows : ℕ) (y : Refusal) (r : Swept) (next i : List Three) → r .step ≡ Stopped y → SmallSwept rows r next i
+small-stopped rows y r next i e = record {
+  currents-spare = λ t. (let b = sym e ∙ t in let z : _≡_ {A = ℕ} 0 1 = cc in absurd (omega arith));
+  voltages-small = λ t. (let b = sym e ∙ t in let z : _≡_ {A = ℕ} 0 1 = cc in absurd (omega arith));
   currents-small = λ t. (let b = sym e ∙ t in let z : _≡_ {A = ℕ} 0 1 = cc in absurd (omega arith));
 }
 
-pub small-settled : (rows : ℕ) (r : Swept) → r .step ≡ Settled → SmallCurrents rows (r .currents) → SmallSwept rows r
-small-settled rows r e h = record {
-  voltages-small = λ k t. (let b = sym e ∙ t in let z : _≡_ {A = ℕ} 0 1 = cc in absurd (omega arith));
+pub small-settled : (rows : ℕ) (r : Swept) (next i : List Three) → r .step ≡ Settled → SmallCurrents rows i → SmallSwept rows r next i
+small-settled rows r next i e h = record {
+  currents-spare = λ t. (let b = sym e ∙ t in let z : _≡_ {A = ℕ} 0 1 = cc in absurd (omega arith));
+  voltages-small = λ t. (let b = sym e ∙ t in let z : _≡_ {A = ℕ} 0 1 = cc in absurd (omega arith));
   currents-small = λ t. h;
 }
 
-pub small-again : (rows : ℕ) (r : Swept) → r .step ≡ Again → ((k : ℕ) → Within3 2000000 (getD (r .voltages) k zero3)) → SmallSwept rows r
-small-again rows r e h = record {
-  voltages-small = λ k t. h k;
+pub small-again : (rows : ℕ) (r : Swept) (next i : List Three) → r .step ≡ Again → Room rows next → Spare rows i → SmallSwept rows r next i
+small-again rows r next i e h j = record {
+  currents-spare = λ t. j;
+  voltages-small = λ t. h;
   currents-small = λ t. (let b = sym e ∙ t in let z : _≡_ {A = ℕ} 0 1 = cc in absurd (omega arith));
 }
 
-pub small-unsolved : (rows : ℕ) (y : Refusal) (r : Run) → r .solving ≡ Unsolved y → SmallRun rows r
-small-unsolved rows y r e = record {
+pub small-unsolved : (rows : ℕ) (y : Refusal) (r : Run) (i : List Three) → r .solving ≡ Unsolved y → SmallRun rows r i
+small-unsolved rows y r i e = record {
   few-sweeps = λ k t. (let b = sym e ∙ t in let z : _≡_ {A = ℕ} 0 1 = cc in absurd (omega arith));
   currents-small = λ k t. (let b = sym e ∙ t in let z : _≡_ {A = ℕ} 0 1 = cc in absurd (omega arith));
 }
 
-pub small-solved : (rows n : ℕ) (r : Run) → r .solving ≡ Solved n → n ≤ 100 → SmallCurrents rows (r .currents) → SmallRun rows r
-small-solved rows n r e q h = record {
+pub small-solved : (rows n : ℕ) (r : Run) (i : List Three) → r .solving ≡ Solved n → n ≤ 100 → SmallCurrents rows i → SmallRun rows r i
+small-solved rows n r i e q h = record {
   few-sweeps = λ k t. (let b : Solved n ≡ Solved k = sym e ∙ t in let z : n ≡ k = cc in omega arith);
   currents-small = λ k t. h;
 }
@@ -225,9 +233,9 @@ pub record Here (f : Feeder) (k : ℕ) (v : List Three) : Type 0 where
   pub short : length list ≤ 201
   pub rest : sweep f ((f .limit + 1) - k) k list ≡ solution f
 
-pub here-start : (f : Feeder) (z : List Three) (p : Pass) → rowCount f ≤ 200 → Same z [] → DownwardIs f z p → p .ok ≡ true → Here f 1 (p .at)
+pub here-start : (f : Feeder) (z : List Three) (ok : Bool) (v : List Three) → rowCount f ≤ 200 → Same z [] → DownwardIs f z ok v → ok ≡ true → Here f 1 v
 unfolding solution
-here-start f z p few none down o =
+here-start f z ok v few none down o =
     let e = voltages-same f none in
     record {
       list = voltages f [];
@@ -236,28 +244,28 @@ here-start f z p few none down o =
       rest = let w : (f .limit + 1) - 1 ≡ f .limit = omega arith in rw w (first (voltageBeyond f (voltages f [])) (rw e at (down .ok-is)) (sweep f (f .limit) 1 (voltages f [])));
     }
   where
-    first : (b : Bool) → p .ok ≡ not b → (y : Outcome Solution) → y ≡ (refuseIf b (VoltageBeyond 0) >> y)
-    first true q y = clash (p .ok) o q
+    first : (b : Bool) → ok ≡ not b → (y : Outcome Solution) → y ≡ (refuseIf b (VoltageBeyond 0) >> y)
+    first true q y = clash (ok) o q
     first false q y = refl
 
-pub no-start : (f : Feeder) (z : List Three) (p : Pass) → Same z [] → DownwardIs f z p → p .ok ≡ false → solution f ≡ refused (VoltageBeyond 0)
+pub no-start : (f : Feeder) (z : List Three) (ok : Bool) (v : List Three) → Same z [] → DownwardIs f z ok v → ok ≡ false → solution f ≡ refused (VoltageBeyond 0)
 unfolding solution
-no-start f z p none down o =
+no-start f z ok v none down o =
     let e = voltages-same f none in
     first (voltageBeyond f (voltages f [])) (rw e at (down .ok-is)) _
   where
-    first : (b : Bool) → p .ok ≡ not b → (y : Outcome Solution) → (refuseIf b (VoltageBeyond 0) >> y) ≡ refused (VoltageBeyond 0)
+    first : (b : Bool) → ok ≡ not b → (y : Outcome Solution) → (refuseIf b (VoltageBeyond 0) >> y) ≡ refused (VoltageBeyond 0)
     first true q y = refl
-    first false q y = clash (p .ok) q o
+    first false q y = clash (ok) q o
 
-module _ (f : Feeder) (k : ℕ) (v : List Three) (few : rowCount f ≤ 200) (here : Here f k v) (more : k ≤ f .limit) (r : Swept) (of : SweptIs f v k r) where
+module _ (f : Feeder) (k : ℕ) (v : List Three) (few : rowCount f ≤ 200) (here : Here f k v) (more : k ≤ f .limit) (r : Swept) (next i : List Three) (of : SweptIs f v k r next i) where
   this : solution f ≡ byStep (r .step) (good (record { voltages = here .list; currents = currents f v; sweeps = k })) (sweep f (f .limit - k) (k + 1) (voltages f (currents f v)))
   this =
       let e : (f .limit + 1) - k ≡ suc (f .limit - k) = omega arith in
       sym (rw e at (here .rest)) ∙ by-step f (f .limit - k) k v (here .list) (same-array v (here .list) (here .stored) (here .short)) ∙
       ap (λ (s : Step). byStep s (good (record { voltages = here .list; currents = currents f v; sweeps = k })) (sweep f (f .limit - k) (k + 1) (voltages f (currents f v)))) (sym (of .step-is))
 
-  pub here-next : r .step ≡ Again → Here f (k + 1) (r .voltages)
+  pub here-next : r .step ≡ Again → Here f (k + 1) next
   here-next e = record {
     list = voltages f (currents f v);
     stored = of .next-is e;
@@ -265,18 +273,18 @@ module _ (f : Feeder) (k : ℕ) (v : List Three) (few : rowCount f ≤ 200) (her
     rest = let w : (f .limit + 1) - (k + 1) ≡ f .limit - k = omega arith in rw w (sym (rw e at this));
   }
 
-  pub here-stopped : (y : Refusal) (x : Run) → r .step ≡ Stopped y → x .solving ≡ Unsolved y → SolvedAs f (solution f) x
-  here-stopped y x e q = record { solving-is = rw (rw e at this) q }
+  pub here-stopped : (y : Refusal) (x : Run) (u j : List Three) → r .step ≡ Stopped y → x .solving ≡ Unsolved y → SolvedAs f (solution f) x u j
+  here-stopped y x u j e q = record { solving-is = rw (rw e at this) q }
 
-  pub here-settled : (x : Run) → r .step ≡ Settled → x .solving ≡ Solved k → x .voltages ≡ v → x .currents ≡ r .currents → x .drawn ≡ r .drawn → SolvedAs f (solution f) x
-  here-settled x e q p i d = record {
+  pub here-settled : (x : Run) → r .step ≡ Settled → x .solving ≡ Solved k → x .drawn ≡ r .drawn → SolvedAs f (solution f) x v i
+  here-settled x e q d = record {
     solving-is =
         rw (rw e at this) (
           q,
           record {
-            voltages-are = p ∙ here .stored;
+            voltages-are = here .stored;
             few-voltages = here .short;
-            currents-are = i ∙ of .currents-are e;
+            currents-are = of .currents-are e;
             few-currents = currents-short f v few;
             drawn-is = d ∙ of .drawn-is e ∙ drawn-same f (same-array v (here .list) (here .stored) (here .short));
           },
@@ -284,11 +292,11 @@ module _ (f : Feeder) (k : ℕ) (v : List Three) (few : rowCount f ≤ 200) (her
   }
 
 -- after the last sweep
-pub here-last : (f : Feeder) (k : ℕ) (v : List Three) → Here f k v → f .limit < k → (x : Run) → x .solving ≡ Unsolved (NotSettled (f .limit)) → SolvedAs f (solution f) x
+pub here-last : (f : Feeder) (k : ℕ) (v : List Three) → Here f k v → f .limit < k → (x : Run) (u i : List Three) → x .solving ≡ Unsolved (NotSettled (f .limit)) → SolvedAs f (solution f) x u i
 unfolding sweep
-here-last f k v here h x q =
+here-last f k v here h x u i q =
     let e : (f .limit + 1) - k ≡ 0 = omega arith in
     record { solving-is = rw (sym (rw e at (here .rest))) q }
 
-pub stopped-start : (f : Feeder) (x : Run) → solution f ≡ refused (VoltageBeyond 0) → x .solving ≡ Unsolved (VoltageBeyond 0) → SolvedAs f (solution f) x
-stopped-start f x e q = record { solving-is = rw e q }
+pub stopped-start : (f : Feeder) (x : Run) (v i : List Three) → solution f ≡ refused (VoltageBeyond 0) → x .solving ≡ Unsolved (VoltageBeyond 0) → SolvedAs f (solution f) x v i
+stopped-start f x v i e q = record { solving-is = rw e q }

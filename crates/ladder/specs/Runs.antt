@@ -6,6 +6,7 @@ use Prim.Native.Nat.{_≤_, ℕ}
 use lib.ListN.{getD, length}
 use Rattle.answers.specs.Answers.{Outcome, good, refused}
 use Rattle.answers.specs.declared.Refusal.the-variants.{CurrentBeyond, LoadBeyond, VoltageBeyond, ZeroVoltage}
+use Rattle.arrays.specs.Arrays.{Spare}
 use Rattle.equations.specs.Equations.{at, currentBeyond, currents, drawnPower, loadBeyond, voltageBeyond, voltages, zero3, zeroVoltage}
 use Rattle.equations.specs.Sizes.{Within3}
 use Rattle.feeder.specs.Feeder.{Feeder, abc}
@@ -41,16 +42,22 @@ stepAt f v k =
     stepOf k (zeroVoltage f v) (loadBeyond f v) (currentBeyond f (currents f v)) (voltageBeyond f (voltages f (currents f v)))
     (settled f v (voltages f (currents f v)))
 
--- sweep k from the voltages v
-pub record SweptIs (f : Feeder) (v : List Three) (k : ℕ) (r : Swept) : Type 0 where
+-- sweep k from the voltages v: its voltages `next`, its currents i
+pub record SweptIs (f : Feeder) (v : List Three) (k : ℕ) (r : Swept) (next i : List Three) : Type 0 where
   pub step-is : r .step ≡ stepAt f v k
-  pub next-is : r .step ≡ Again → r .voltages ≡ kept zero3 201 (voltages f (currents f v))
-  pub currents-are : r .step ≡ Settled → r .currents ≡ kept zero3 201 (currents f v)
+  pub next-is : r .step ≡ Again → next ≡ kept zero3 201 (voltages f (currents f v))
+  pub currents-are : r .step ≡ Settled → i ≡ kept zero3 201 (currents f v)
   pub drawn-is : r .step ≡ Settled → r .drawn ≡ drawnPower f v
 
-pub record SmallSwept (rows : ℕ) (r : Swept) : Type 0 where
-  pub voltages-small : (k : ℕ) → r .step ≡ Again → Within3 2000000 (getD (r .voltages) k zero3)
-  pub currents-small : r .step ≡ Settled → SmallCurrents rows (r .currents)
+-- an array in which voltages are worked: the places behind the rows are zero
+pub record Room (rows : ℕ) (l : List Three) : Type 0 where
+  pub spare : Spare rows l
+  pub each : (k : ℕ) → Within3 2000000 (getD l k zero3)
+
+pub record SmallSwept (rows : ℕ) (r : Swept) (next i : List Three) : Type 0 where
+  pub voltages-small : r .step ≡ Again → Room rows next
+  pub currents-spare : r .step ≡ Again → Spare rows i
+  pub currents-small : r .step ≡ Settled → SmallCurrents rows i
 
 -- ---- the iteration
 -- the arrays of a solution
@@ -61,13 +68,13 @@ pub record GoodRun (f : Feeder) (x : Solution) (v i : List Three) (drawn : Pair)
   pub few-currents : length (x .currents) ≤ 201
   pub drawn-is : drawn ≡ drawnPower f (x .voltages)
 
-abbrev pub Solving-is : Feeder → Outcome Solution → Run → Type 0
-Solving-is f (good x) r = (r .solving ≡ Solved (x .sweeps)) × GoodRun f x (r .voltages) (r .currents) (r .drawn)
-Solving-is f (refused y) r = r .solving ≡ Unsolved y
+abbrev pub Solving-is : Feeder → Outcome Solution → Run → List Three → List Three → Type 0
+Solving-is f (good x) r v i = (r .solving ≡ Solved (x .sweeps)) × GoodRun f x v i (r .drawn)
+Solving-is f (refused y) r v i = r .solving ≡ Unsolved y
 
-pub record SolvedAs (f : Feeder) (o : Outcome Solution) (r : Run) : Type 0 where
-  pub solving-is : Solving-is f o r
+pub record SolvedAs (f : Feeder) (o : Outcome Solution) (r : Run) (v i : List Three) : Type 0 where
+  pub solving-is : Solving-is f o r v i
 
-pub record SmallRun (rows : ℕ) (r : Run) : Type 0 where
+pub record SmallRun (rows : ℕ) (r : Run) (i : List Three) : Type 0 where
   pub few-sweeps : (k : ℕ) → r .solving ≡ Solved k → k ≤ 100
-  pub currents-small : (k : ℕ) → r .solving ≡ Solved k → SmallCurrents rows (r .currents)
+  pub currents-small : (k : ℕ) → r .solving ≡ Solved k → SmallCurrents rows i

@@ -32,11 +32,10 @@ use Rattle.ladder.specs.declared.Study.{Study}
 use Rattle.ladder.specs.declared.Study.the-variants.{NoReport, Written}
 use Rattle.passes.specs.Passes.{LossesAre}
 use Rattle.passes.specs.Same.{Same, loss-same, lost-same, source-same}
-use Rattle.passes.specs.declared.Losses.{Losses}
-use Rattle.reading.specs.Reading.{ReadAs}
+use Rattle.reading.specs.Reading.{ReadInto}
 use Rattle.reading.specs.declared.ReadAnswer.{ReadAnswer}
 use Rattle.reading.specs.declared.ReadAnswer.the-variants.{Good, Refused}
-use Rattle.reading.specs.declared.Reading.{Reading}
+use Rattle.reading.specs.declared.Read.{Read}
 use Rattle.report_writer.specs.ReportIs.{Shown}
 use Rattle.report_writer.specs.Tables.{Given}
 use Rattle.report_writer.specs.declared.Figures.{Figures}
@@ -54,20 +53,20 @@ pub whole-read : (s : List ℕ) (out : List ℕ) (f : Feeder) (r : Study) (last 
 whole-read s out f r last e h = study-same {p = fittedFrom f (length out)} (rw e) h
 
 -- ---- what was read
-pub read-refused : (o : Outcome Feeder) (r : Reading) (x : Refusal) → ReadAs o r → r .answer ≡ Refused x → o ≡ refused x
-read-refused (good f) r x h e = let b : _≡_ {A = ReadAnswer} Good (Refused x) = sym (h .answered .0) ∙ e in let z : _≡_ {A = ℕ} 0 1 = cc in absurd (omega arith)
-read-refused (refused y) r x h e = let b : _≡_ {A = ReadAnswer} (Refused y) (Refused x) = sym (h .answered) ∙ e in let z : y ≡ x = cc in ap refused z
+pub read-refused : (o : Outcome Feeder) (r : Read) (g : Network) (x : Refusal) → ReadInto o r g → r .answer ≡ Refused x → o ≡ refused x
+read-refused (good f) r g x h e = let b : _≡_ {A = ReadAnswer} Good (Refused x) = sym (h .answered .0) ∙ e in let z : _≡_ {A = ℕ} 0 1 = cc in absurd (omega arith)
+read-refused (refused y) r g x h e = let b : _≡_ {A = ReadAnswer} (Refused y) (Refused x) = sym (h .answered) ∙ e in let z : y ≡ x = cc in ap refused z
 
-pub record ReadKnown (s : List ℕ) (r : Reading) : Type 0 where
+pub record ReadKnown (s : List ℕ) (g : Network) : Type 0 where
   pub feeder : Feeder
   pub whole : reading s ≡ good feeder
-  pub held : Held feeder (r .network)
-  pub known : Known (r .network)
+  pub held : Held feeder g
+  pub known : Known g
 
-pub read-good : (s : List ℕ) (r : Reading) → ReadAs (reading s) r → r .answer ≡ Good → ReadKnown s r
-read-good s r h e = go (reading s) refl h
+pub read-good : (s : List ℕ) (r : Read) (g : Network) → ReadInto (reading s) r g → r .answer ≡ Good → ReadKnown s g
+read-good s r g h e = go (reading s) refl h
   where
-    go : (o : Outcome Feeder) → reading s ≡ o → ReadAs o r → ReadKnown s r
+    go : (o : Outcome Feeder) → reading s ≡ o → ReadInto o r g → ReadKnown s g
     go (good f) q h = record {
       feeder = f;
       whole = q;
@@ -77,25 +76,25 @@ read-good s r h e = go (reading s) refl h
     go (refused y) q h = let b : _≡_ {A = ReadAnswer} (Refused y) Good = sym (h .answered) ∙ e in let z : _≡_ {A = ℕ} 0 1 = cc in absurd (omega arith)
 
 -- ---- the iteration's end
-pub record RunGood (f : Feeder) (k : ℕ) (r : Run) : Type 0 where
+pub record RunGood (f : Feeder) (k : ℕ) (r : Run) (v i : List Three) : Type 0 where
   pub found : Solution
   pub whole : solution f ≡ good found
   pub sweeps : k ≡ found .sweeps
-  pub good-run : GoodRun f found (r .voltages) (r .currents) (r .drawn)
+  pub good-run : GoodRun f found v i (r .drawn)
 
-pub run-good : (f : Feeder) (k : ℕ) (r : Run) → SolvedAs f (solution f) r → r .solving ≡ Solved k → RunGood f k r
-run-good f k r h e = go (solution f) refl h
+pub run-good : (f : Feeder) (k : ℕ) (r : Run) (v i : List Three) → SolvedAs f (solution f) r v i → r .solving ≡ Solved k → RunGood f k r v i
+run-good f k r v i h e = go (solution f) refl h
   where
-    go : (o : Outcome Solution) → solution f ≡ o → SolvedAs f o r → RunGood f k r
+    go : (o : Outcome Solution) → solution f ≡ o → SolvedAs f o r v i → RunGood f k r v i
     go (good x) q h =
         let b : _≡_ {A = Solving} (Solved k) (Solved (x .sweeps)) = sym e ∙ h .solving-is .0 in
         record { found = x; whole = q; sweeps = cc; good-run = h .solving-is .1 }
     go (refused y) q h = let b : _≡_ {A = Solving} (Unsolved y) (Solved k) = sym (h .solving-is) ∙ e in let z : _≡_ {A = ℕ} 0 1 = cc in absurd (omega arith)
 
-pub run-refused : (f : Feeder) (x : Refusal) (r : Run) → SolvedAs f (solution f) r → r .solving ≡ Unsolved x → solution f ≡ refused x
-run-refused f x r h e = go (solution f) refl h
+pub run-refused : (f : Feeder) (x : Refusal) (r : Run) (v i : List Three) → SolvedAs f (solution f) r v i → r .solving ≡ Unsolved x → solution f ≡ refused x
+run-refused f x r v i h e = go (solution f) refl h
   where
-    go : (o : Outcome Solution) → solution f ≡ o → SolvedAs f o r → solution f ≡ refused x
+    go : (o : Outcome Solution) → solution f ≡ o → SolvedAs f o r v i → solution f ≡ refused x
     go (good y) q h = let b : _≡_ {A = Solving} (Solved (y .sweeps)) (Unsolved x) = sym (h .solving-is .0) ∙ e in let z : _≡_ {A = ℕ} 0 1 = cc in absurd (omega arith)
     go (refused y) q h = let b : _≡_ {A = Solving} (Unsolved y) (Unsolved x) = sym (h .solving-is) ∙ e in let z : y ≡ x = cc in q ∙ ap refused z
 
@@ -132,10 +131,10 @@ with-room f x out n len k last e h s l b =
     let t : ltb (length out) (length (textOf f x)) ≡ false = rw e at h in
     study-same {p = good (record { text = textOf f x; sweeps = x .sweeps })} (rw t) (record { answer = λ i. Written (l i) (s i); buffer = b })
 
-loss-at : (f : Feeder) (i : List Three) (l : Losses) → rowCount f ≤ 200 → LossesAre f i l → (k : ℕ) → 0 < k → k ≤ rowCount f → getD (l .each) k 0c ≡ lossOf f i k
+loss-at : (f : Feeder) (i : List Three) (l : List Pair) (sum : Pair) → rowCount f ≤ 200 → LossesAre f i l sum → (k : ℕ) → 0 < k → k ≤ rowCount f → getD l k 0c ≡ lossOf f i k
 unfolding count
-loss-at f i l few h zero p q = absurd (omega arith)
-loss-at f i l few h (suc k) p q =
+loss-at f i l sum few h zero p q = absurd (omega arith)
+loss-at f i l sum few h (suc k) p q =
     let n = length-map (rowsOf f) (lossOf f i) in
     let m = length-tab (λ (j : ℕ). j) 1 (rowCount f) in
     rw (h .each-is) (
@@ -144,7 +143,7 @@ loss-at f i l few h (suc k) p q =
     ∙ ap (lossOf f i) (let z : 1 + k ≡ suc k = omega arith in rw z at (getD-tab (λ (j : ℕ). j) 1 (rowCount f) k 0 (omega arith)))
     )
 
-module _ {g : Network} (known : Known g) (f : Feeder) (held : Held f g) (x : Solution) (v i : List Three) (drawn : Pair) (run : GoodRun f x v i drawn) (l : Losses) (lost : LossesAre f i l) where
+module _ {g : Network} (known : Known g) (f : Feeder) (held : Held f g) (x : Solution) (v i : List Three) (drawn : Pair) (run : GoodRun f x v i drawn) (l : List Pair) (sum : Pair) (lost : LossesAre f i l sum) where
   branch-held : (k : ℕ) → getD (g .branches) k noBranch ≡ branchAt f k
   unfolding branchAt
   branch-held k = rw (held .branches) (getD-kept noBranch 201 (noBranch ∷ f .branches) k (let q = held .few-rows in omega arith))
@@ -155,7 +154,7 @@ module _ {g : Network} (known : Known g) (f : Feeder) (held : Held f g) (x : Sol
   same-i : Same i (x .currents)
   same-i = same-array i (x .currents) (run .currents-are) (run .few-currents)
 
-  pub shown : (source : Pair) → source ≡ sourcePower f i → (k : ℕ) → Shown f (x .voltages) (x .currents) (g .nodes) (g .branches) (g .rows) v i (l .each) (record { sweeps = k; source = source; drawn = drawn; lost = l .sum })
+  pub shown : (source : Pair) → source ≡ sourcePower f i → (k : ℕ) → Shown f (x .voltages) (x .currents) (g .nodes) (g .branches) (g .rows) v i l (record { sweeps = k; source = source; drawn = drawn; lost = sum })
   shown source e k = record {
     count = held .rows;
     few = held .few-rows;
@@ -164,7 +163,7 @@ module _ {g : Network} (known : Known g) (f : Feeder) (held : Held f g) (x : Sol
     from = λ j p q. (let n = held .rows in let m = held .few-rows in let w : getD (g .branches) j noBranch .from < g .rows + 1 = known .arranged .linked .from j (omega arith) in let b : getD (g .branches) j noBranch .from ≡ parent f j = ap (λ b. b .from) (branch-held j) in omega arith);
     voltages = λ j q. same-v .place j;
     currents = λ j p q. same-i .place j;
-    loss = λ j p q. loss-at f i l (held .few-rows) lost j p q ∙ loss-same f same-i j;
+    loss = λ j p q. loss-at f i l sum (held .few-rows) lost j p q ∙ loss-same f same-i j;
     source = e ∙ source-same f same-i;
     drawn = run .drawn-is;
     lost = lost .sum-is ∙ lost-same f same-i;

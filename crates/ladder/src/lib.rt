@@ -1,29 +1,34 @@
 // The study: the modified ladder iteration. specs/Ladder.antt and specs/Study.antt say what it answers.
-ghost use mathlib.Core.List.{[]};
 ghost use mathlib.Core.Path.{_≡_};
 ghost use Prim.Native.Nat.{ℕ, _≤_};
-ghost use lib.ListN.{getD, length};
+ghost use lib.ListN.{getD, length, replicate};
+ghost use Rattle.arrays.specs.Arrays.{Spare, networkOf, threesOf};
 ghost use Rattle.equations.specs.Equations.{zero3};
 ghost use Rattle.equations.specs.Sizes.{Within3};
 ghost use Rattle.feeder.specs.Feeder.{Feeder};
 ghost use Rattle.feeder.specs.Network.{Held};
 ghost use Rattle.integers.specs.Lists.{all, count};
 ghost use Rattle.ladder.specs.Ladder.{Solution, solution};
-ghost use Rattle.ladder.specs.Runs.{GoodRun, SmallRun, SmallSwept, SolvedAs, SweptIs, stillAt};
+ghost use Rattle.ladder.specs.Runs.{GoodRun, Room, SmallRun, SmallSwept, SolvedAs, SweptIs, stillAt};
 ghost use Rattle.ladder.specs.Stages.{StudyAs, fittedFrom, fittedWith};
 ghost use Rattle.ladder.specs.Study.{bufferOf, studyOf};
 ghost use Rattle.ladder.specs.StudyLaws.{StudyGood};
-ghost use Rattle.passes.specs.Same.{Same};
 ghost use Rattle.sweeps.specs.Sweeps.{Known, SmallCurrents};
 use answers::Refusal;
+use arrays::Branches;
+use arrays::Loads;
+use arrays::Names;
+use arrays::Places;
+use arrays::Settings;
+use arrays::Threes;
+use arrays::copy_threes;
+use arrays::three_at;
 use devices::power;
 use devices::threes;
-use feeder::Network;
-use feeder::Three;
 use integers::Pair;
 use passes::loss_pass;
 use reading::ReadAnswer;
-use reading::read_feeder;
+use reading::read_into;
 use report_writer::Figures;
 use report_writer::put_report;
 use report_writer::report_width;
@@ -44,11 +49,9 @@ pub enum Step {
     Again,
 }
 
-// A sweep: its voltages, its currents, and the power that the loads draw.
+// A sweep, and the power that the loads draw.
 pub struct Swept {
     pub step: Step,
-    pub voltages: [Three; 201],
-    pub currents: [Three; 201],
     pub drawn: Pair,
 }
 
@@ -58,25 +61,23 @@ pub enum Solving {
     Unsolved(Refusal),
 }
 
-// What is reported where it is solved: the voltages before the last sweep, and that sweep's currents.
+// The iteration, and the power drawn in the last sweep where it is solved.
 pub struct Run {
     pub solving: Solving,
-    pub voltages: [Three; 201],
-    pub currents: [Three; 201],
     pub drawn: Pair,
 }
 
 // Whether no voltage of a row moved by more than `tol`.
-fn still(rows: usize, v: [Three; 201], w: [Three; 201], tol: u64) -> bool
+fn still(rows: usize, v: &Threes, w: &Threes, tol: u64) -> bool
     requires { ⌜ rows ≤ 200 ⌝ }
-    requires { ⌜ ((k : ℕ) → Within3 2000000 (getD v k zero3)) ⌝ }
-    requires { ⌜ ((k : ℕ) → Within3 2000000 (getD w k zero3)) ⌝ }
-    ensures { λ r. ⌜ r ≡ all (stillAt tol v w) (count 1 rows) ⌝ }
+    requires { ⌜ ((k : ℕ) → Within3 2000000 (getD (threesOf (now v)) k zero3)) ⌝ }
+    requires { ⌜ ((k : ℕ) → Within3 2000000 (getD (threesOf (now w)) k zero3)) ⌝ }
+    ensures { λ r. ⌜ r ≡ all (stillAt tol (threesOf (now (v .entry))) (threesOf (now (w .entry)))) (count 1 rows) ⌝ }
 {
     let mut k = 1;
     while k <= rows {
-        let x = w[k];
-        let y = v[k];
+        let x = three_at(w, k);
+        let y = three_at(v, k);
         if !threes::close(x, y, tol) {
             return false;
         }
@@ -85,59 +86,57 @@ fn still(rows: usize, v: [Three; 201], w: [Three; 201], tol: u64) -> bool
     true
 }
 
-// Sweep k from the voltages v: 30 to 32, then 33, then whether the voltages have settled.
-fn sweep_once(g: Network, v: [Three; 201], k: usize) -> Swept
-    requires { ⌜ Known g ⌝ }
-    requires { ⌜ ((k : ℕ) → Within3 2000000 (getD v k zero3)) ⌝ }
-    ensures value { λ r. ⌜ ((f : Feeder) → Held f g → SweptIs f v k r) ⌝ }
-    ensures size { λ r. ⌜ SmallSwept (g .rows) r ⌝ }
+// Sweep k from the voltages v: 30 to 32, then 33, then whether the voltages have settled. `next` gets the sweep's voltages, `i` its currents.
+fn sweep_once(
+    settings: Settings,
+    nodes: &Names,
+    branches: &Branches,
+    loads: &Loads,
+    order: &Places,
+    rank: &Places,
+    v: &Threes,
+    k: usize,
+    next: &mut Threes,
+    i: &mut Threes,
+) -> Swept
+    requires { ⌜ Known (networkOf settings (now nodes) (now branches) (now loads) (now order) (now rank)) ⌝ }
+    requires { ⌜ ((k : ℕ) → Within3 2000000 (getD (threesOf (now v)) k zero3)) ⌝ }
+    requires { ⌜ Room (settings .rows) (threesOf (now next)) ⌝ }
+    requires { ⌜ Spare (settings .rows) (threesOf (now i)) ⌝ }
+    ensures value { λ r. ⌜ ((f : Feeder) → Held f (networkOf settings (now (nodes .entry)) (now (branches .entry)) (now (loads .entry)) (now (order .entry)) (now (rank .entry))) → SweptIs f (threesOf (now (v .entry))) k r (threesOf (now (next .exit))) (threesOf (now (i .exit)))) ⌝ }
+    ensures size { λ r. ⌜ SmallSwept (settings .rows) r (threesOf (now (next .exit))) (threesOf (now (i .exit))) ⌝ }
 {
-    let x = work_currents(g, v);
-    let currents = x.currents;
+    let x = work_currents(settings, nodes, branches, loads, order, rank, v, i);
     let drawn = x.drawn;
     let work = x.work;
     match work {
         Work::ZeroVoltage => Swept {
             step: Step::Stopped(Refusal::ZeroVoltage(k)),
-            voltages: v,
-            currents,
             drawn,
         },
         Work::LoadBeyond => Swept {
             step: Step::Stopped(Refusal::LoadBeyond(k)),
-            voltages: v,
-            currents,
             drawn,
         },
         Work::CurrentBeyond => Swept {
             step: Step::Stopped(Refusal::CurrentBeyond(k)),
-            voltages: v,
-            currents,
             drawn,
         },
         Work::Fine => {
-            let p = work_voltages(g, currents);
-            let voltages = p.at;
-            if !p.ok {
+            if !work_voltages(settings, nodes, branches, loads, order, rank, i, next) {
                 return Swept {
                     step: Step::Stopped(Refusal::VoltageBeyond(k)),
-                    voltages,
-                    currents,
                     drawn,
                 };
             }
-            if still(g.rows, v, voltages, g.tol) {
+            if still(settings.rows, v, next, settings.tol) {
                 Swept {
                     step: Step::Settled,
-                    voltages,
-                    currents,
                     drawn,
                 }
             } else {
                 Swept {
                     step: Step::Again,
-                    voltages,
-                    currents,
                     drawn,
                 }
             }
@@ -145,98 +144,98 @@ fn sweep_once(g: Network, v: [Three; 201], k: usize) -> Swept
     }
 }
 
-// No current at any node.
-fn no_currents() -> [Three; 201]
-    ensures { λ r. ⌜ Same r [] ⌝ }
+// The iteration: V0 with all currents zero, then sweep by sweep to the limit. Where it is solved, `v` holds the voltages before the last sweep and `i` that sweep's
+// currents.
+pub fn solve(
+    settings: Settings,
+    nodes: &Names,
+    branches: &Branches,
+    loads: &Loads,
+    order: &Places,
+    rank: &Places,
+    v: &mut Threes,
+    i: &mut Threes,
+) -> Run
+    requires { ⌜ Known (networkOf settings (now nodes) (now branches) (now loads) (now order) (now rank)) ⌝ }
+    requires { ⌜ Room (settings .rows) (threesOf (now v)) ⌝ }
+    requires { ⌜ threesOf (now i) ≡ replicate 201 zero3 ⌝ }
+    ensures value { λ r. ⌜ ((f : Feeder) → Held f (networkOf settings (now (nodes .entry)) (now (branches .entry)) (now (loads .entry)) (now (order .entry)) (now (rank .entry))) → SolvedAs f (solution f) r (threesOf (now (v .exit))) (threesOf (now (i .exit)))) ⌝ }
+    ensures size { λ r. ⌜ SmallRun (settings .rows) r (threesOf (now (i .exit))) ⌝ }
 {
     let zero = Pair { re: 0, im: 0 };
-    let none = Three {
-        a: zero,
-        b: zero,
-        c: zero,
-    };
-    [none; 201]
-}
-
-// The iteration: V0 with all currents zero, then sweep by sweep to the limit.
-pub fn solve(g: Network) -> Run
-    requires { ⌜ Known g ⌝ }
-    ensures value { λ r. ⌜ ((f : Feeder) → Held f g → SolvedAs f (solution f) r) ⌝ }
-    ensures size { λ r. ⌜ SmallRun (g .rows) r ⌝ }
-{
-    let zero = Pair { re: 0, im: 0 };
-    let zeros = no_currents();
-    let start = work_voltages(g, zeros);
-    let mut v = start.at;
-    if !start.ok {
+    if !work_voltages(settings, nodes, branches, loads, order, rank, i, v) {
         return Run {
             solving: Solving::Unsolved(Refusal::VoltageBeyond(0)),
-            voltages: v,
-            currents: zeros,
             drawn: zero,
         };
     }
-    let limit = g.limit;
+    let mut next = [[0i64; 6]; 201];
+    let limit = settings.limit;
     let mut k = 1;
     while k <= limit {
-        let s = sweep_once(g, v, k);
-        let next = s.voltages;
-        let currents = s.currents;
+        let s = sweep_once(
+            settings,
+            nodes,
+            branches,
+            loads,
+            order,
+            rank,
+            v,
+            k,
+            &mut next,
+            i,
+        );
         let drawn = s.drawn;
         let step = s.step;
         match step {
             Step::Stopped(x) => {
                 return Run {
                     solving: Solving::Unsolved(x),
-                    voltages: next,
-                    currents,
                     drawn,
                 };
             }
             Step::Settled => {
                 return Run {
                     solving: Solving::Solved(k),
-                    voltages: v,
-                    currents,
                     drawn,
                 };
             }
             Step::Again => {
-                v = next;
+                copy_threes(&next, settings.rows, v);
                 k += 1;
             }
         }
     }
     Run {
         solving: Solving::Unsolved(Refusal::NotSettled(limit)),
-        voltages: v,
-        currents: zeros,
         drawn: zero,
     }
 }
 
 // The report of a solution, where the buffer has room for it.
 fn write_solution(
-    g: Network,
+    settings: Settings,
+    nodes: &Names,
+    branches: &Branches,
+    loads: &Loads,
+    order: &Places,
+    rank: &Places,
     sweeps: usize,
-    v: [Three; 201],
-    i: [Three; 201],
+    v: &Threes,
+    i: &Threes,
     drawn: Pair,
     out: &mut [u8],
 ) -> Study
-    requires { ⌜ Known g ⌝ }
-    requires { ⌜ SmallCurrents (g .rows) i ⌝ }
+    requires { ⌜ Known (networkOf settings (now nodes) (now branches) (now loads) (now order) (now rank)) ⌝ }
+    requires { ⌜ SmallCurrents (settings .rows) (threesOf (now i)) ⌝ }
     requires { ⌜ sweeps ≤ 100 ⌝ }
-    ensures { λ r. ⌜ ((f : Feeder) (x : Solution) → Held f g → sweeps ≡ x .sweeps → GoodRun f x v i drawn → StudyAs (fittedWith f x (length (now (out .entry)))) (now (out .entry)) r (now (out .exit))) ⌝ }
+    ensures { λ r. ⌜ ((f : Feeder) (x : Solution) → Held f (networkOf settings (now (nodes .entry)) (now (branches .entry)) (now (loads .entry)) (now (order .entry)) (now (rank .entry))) → sweeps ≡ x .sweeps → GoodRun f x (threesOf (now (v .entry))) (threesOf (now (i .entry))) drawn → StudyAs (fittedWith f x (length (now (out .entry)))) (now (out .entry)) r (now (out .exit))) ⌝ }
 {
-    let branches = g.branches;
-    let nodes = g.nodes;
-    let rows = g.rows;
-    let l = loss_pass(branches, rows, i);
-    let losses = l.each;
-    let lost = l.sum;
-    let taken = i[0];
-    let from = g.source;
+    let rows = settings.rows;
+    let mut losses = [[0i64; 2]; 201];
+    let lost = loss_pass(branches, rows, i, &mut losses);
+    let taken = three_at(i, 0);
+    let from = settings.source;
     let source = power(from, taken);
     let figures = Figures {
         sweeps,
@@ -244,28 +243,57 @@ fn write_solution(
         drawn,
         lost,
     };
-    let need = report_width(nodes, branches, rows, v, i, losses, figures);
+    let need = report_width(nodes, branches, rows, v, i, &losses, figures);
     if out.len() < need {
         return Study::NoReport(Refusal::BufferShort(need));
     }
-    let len = put_report(out, nodes, branches, rows, v, i, losses, figures);
+    let len = put_report(out, nodes, branches, rows, v, i, &losses, figures);
     Study::Written(len, sweeps)
 }
 
 // The study of a feeder in memory.
-pub fn study_network(g: Network, out: &mut [u8]) -> Study
-    requires { ⌜ Known g ⌝ }
-    ensures { λ r. ⌜ ((f : Feeder) → Held f g → StudyAs (fittedFrom f (length (now (out .entry)))) (now (out .entry)) r (now (out .exit))) ⌝ }
+pub fn study_network(
+    settings: Settings,
+    nodes: &Names,
+    branches: &Branches,
+    loads: &Loads,
+    order: &Places,
+    rank: &Places,
+    out: &mut [u8],
+) -> Study
+    requires { ⌜ Known (networkOf settings (now nodes) (now branches) (now loads) (now order) (now rank)) ⌝ }
+    ensures { λ r. ⌜ ((f : Feeder) → Held f (networkOf settings (now (nodes .entry)) (now (branches .entry)) (now (loads .entry)) (now (order .entry)) (now (rank .entry))) → StudyAs (fittedFrom f (length (now (out .entry)))) (now (out .entry)) r (now (out .exit))) ⌝ }
 {
-    let run = solve(g);
+    let mut v = [[0i64; 6]; 201];
+    let mut i = [[0i64; 6]; 201];
+    let run = solve(
+        settings,
+        nodes,
+        branches,
+        loads,
+        order,
+        rank,
+        &mut v,
+        &mut i,
+    );
     let solving = run.solving;
     match solving {
         Solving::Unsolved(x) => Study::NoReport(x),
         Solving::Solved(k) => {
-            let v = run.voltages;
-            let i = run.currents;
             let drawn = run.drawn;
-            write_solution(g, k, v, i, drawn, out)
+            write_solution(
+                settings,
+                nodes,
+                branches,
+                loads,
+                order,
+                rank,
+                k,
+                &v,
+                &i,
+                drawn,
+                out,
+            )
         }
     }
 }
@@ -276,11 +304,23 @@ pub fn study_feeder(feeder: &[u8], out: &mut [u8]) -> Study
     ensures buffer { λ r. ⌜ now (out .exit) ≡ bufferOf (now (feeder .entry)) (now (out .entry)) ⌝ }
     ensures sweeps { λ r. ⌜ ((len k : ℕ) → r ≡ Study.Written len k → StudyGood (now (feeder .entry)) (length (now (out .entry))) len k) ⌝ }
 {
-    let read = read_feeder(feeder);
+    let mut nodes = [0u64; 201];
+    let mut branches = [[0i64; 17]; 201];
+    let mut loads = [[0i64; 6]; 300];
+    let mut order = [0usize; 201];
+    let mut rank = [0usize; 201];
+    let read = read_into(
+        feeder,
+        &mut nodes,
+        &mut branches,
+        &mut loads,
+        &mut order,
+        &mut rank,
+    );
     let answer = read.answer;
     if let ReadAnswer::Refused(x) = answer {
         return Study::NoReport(x);
     }
-    let g = read.network;
-    study_network(g, out)
+    let settings = read.settings;
+    study_network(settings, &nodes, &branches, &loads, &order, &rank, out)
 }

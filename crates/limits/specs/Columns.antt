@@ -4,61 +4,142 @@ use mathlib.Core.List.{List}
 use mathlib.Core.Path.{_∙_, _≡_, ap, refl, sym}
 use Prim.Native.Nat.{_+_, _-_, _<_, _≤_, suc, zero, ℕ}
 use native.Mathlib.Omega.{arith}
-use lib.IntN.{ℤ}
-use lib.ListN.{List·getD-eq-default, getD, length, take}
+use lib.Dec.{leb·suc-zero, leb·zero}
+use lib.IntN.{negsuc, negℤ, pos, ℤ}
+use lib.ListN.{getD, length, take}
 use lib.Seq.{ext-getD, getD-take, length-take-le}
-use Rattle.feeder.specs.Feeder.{columnOf, columns, inLimit, zeroIfDue}
-use Rattle.feeder.specs.declared.Column.{Column}
-use Rattle.feeder.specs.declared.Column.the-variants.{Unused}
-use Rattle.feeder.specs.declared.Kind.{Kind}
+use Rattle.feeder.specs.Feeder.{between, branchIn, columnOf, zeros}
+use Rattle.feeder.specs.declared.Kind.the-variants.{L, R, Y}
 use Rattle.feeder.specs.declared.Phases.{Phases}
-use Rattle.integers.specs.ListLaws.{All, getD-tab, length-tab, tab-all}
+use Rattle.integers.specs.ListLaws.{getD-tab, length-tab}
 use Rattle.integers.specs.Lists.{all, count, tab}
 use Rattle.integers.specs.Pairs.{inside}
 use Rattle.text.specs.Lines.{nth}
 
--- ---- what column j is: one of n equal columns from `first` on, or behind the last that is listed
-pub column-is : {c : Column} (k : Kind) (first n j : ℕ) → All (λ i. c ≡ columnOf k i) (count first n) → first ≤ j → j < first + n → c ≡ columnOf k j
-unfolding count
-column-is {c} k first n j h p q =
-    let e : first + (j - first) ≡ j = omega arith in
-    rw e at (tab-all (λ i. c ≡ columnOf k i) (λ i. i) first n h (j - first) (omega arith))
+-- ---- p_first to p_last are each at least lo and at most hi; they are each 0
+unfoldable pub allBetween : ℤ → ℤ → List ℤ → ℕ → ℕ → Bool
+allBetween lo hi p first last = all (λ j. between lo hi (nth p j)) (count first ((last + 1) - first))
 
-pub column-behind : (k : Kind) (j : ℕ) → length (columns k) < j → Unused ≡ columnOf k j
-unfolding columnOf
-column-behind k j h = sym (List·getD-eq-default (columns k) Unused (omega arith))
+unfoldable pub allZero : List ℤ → ℕ → ℕ → Bool
+allZero p first last = all (λ j. inside 0 (nth p j)) (count first ((last + 1) - first))
 
--- ---- the tests of 11 and 24 on column j, and 11's of a voltage of the source
-abbrev pub columnHolds : Bool → Kind → Phases → List ℤ → ℕ → Bool
-columnHolds due k f p j = cond due (zeroIfDue f (columnOf k j) (nth p j)) (inLimit (columnOf k j) (nth p j))
-
+-- 11's test of a voltage of the source
 abbrev pub voltageAt : List ℤ → ℕ → Bool
 voltageAt p j = inside 2000000 (nth p j)
 
--- ---- a test of each of 1 to n: those below j have passed it, so all do if the rest do
-pub record Held (f : ℕ → Bool) (n j : ℕ) : Type 0 where
-  pub from : 0 < j
-  pub rest : all f (count 1 n) ≡ all f (count j ((n + 1) - j))
+-- ---- a test of each of first to last: those below j have passed it, so all do if the rest do
+pub record Held (f : ℕ → Bool) (first last j : ℕ) : Type 0 where
+  pub from : first ≤ j
+  pub rest : all f (count first ((last + 1) - first)) ≡ all f (count j ((last + 1) - j))
 
-pub hold-none : (f : ℕ → Bool) (n : ℕ) → Held f n 1
-hold-none f n = let e : (n + 1) - 1 ≡ n = omega arith in record { from = omega arith; rest = rw e }
+pub hold-none : (f : ℕ → Bool) (first last : ℕ) → Held f first last first
+hold-none f first last = record { from = omega arith; rest = refl }
 
-module _ {f : ℕ → Bool} {n j : ℕ} (held : Held f n j) where
-  turn : j ≤ n → all f (count 1 n) ≡ (f j && all f (count (j + 1) ((n + 1) - (j + 1))))
+module _ {f : ℕ → Bool} {first last j : ℕ} (held : Held f first last j) where
+  turn : j ≤ last → all f (count first ((last + 1) - first)) ≡ (f j && all f (count (j + 1) ((last + 1) - (j + 1))))
   unfolding all count tab
-  turn h = let e : (n + 1) - j ≡ suc ((n + 1) - (j + 1)) = omega arith in held .rest ∙ rw e
+  turn h = let e : (last + 1) - j ≡ suc ((last + 1) - (j + 1)) = omega arith in held .rest ∙ rw e
 
-  pub hold-next : j ≤ n → f j ≡ true → Held f n (j + 1)
+  pub hold-next : j ≤ last → f j ≡ true → Held f first last (j + 1)
   hold-next h e = record { from = omega arith; rest = turn h ∙ simp e }
 
-  pub hold-fails : j ≤ n → f j ≡ false → false ≡ all f (count 1 n)
+  pub hold-fails : j ≤ last → f j ≡ false → false ≡ all f (count first ((last + 1) - first))
   hold-fails h e = sym (turn h ∙ simp e)
 
-  pub hold-ends : n < j → true ≡ all f (count 1 n)
+  pub hold-ends : last < j → true ≡ all f (count first ((last + 1) - first))
   unfolding all count tab
-  hold-ends h = let e : (n + 1) - j ≡ 0 = omega arith in sym (held .rest ∙ rw e)
+  hold-ends h = let e : (last + 1) - j ≡ 0 = omega arith in sym (held .rest ∙ rw e)
 
--- the first n of a list, by their places counted from 1
+-- ---- the columns of each kind of row in their limits
+and-true : (x : Bool) → (x && true) ≡ x
+and-true true = refl
+and-true false = refl
+
+and-assoc : (x y z : Bool) → (x && (y && z)) ≡ ((x && y) && z)
+and-assoc true y z = refl
+and-assoc false y z = refl
+
+and-three : (x y z : Bool) → (x && (y && z)) ≡ ((x && (y && true)) && z)
+and-three true true z = refl
+and-three true false z = refl
+and-three false y z = refl
+
+-- a test of m numbers from k on, and of n behind those
+all-split : (f : ℕ → Bool) (k m n : ℕ) → all f (count k (m + n)) ≡ (all f (count k m) && all f (count (k + m) n))
+unfolding all count tab
+all-split f k zero n = let e : k + 0 ≡ k = omega arith in let z : 0 + n ≡ n = omega arith in rw (e, z)
+all-split f k (suc m) n =
+    let e : k + suc m ≡ (k + 1) + m = omega arith in
+    let z : suc m + n ≡ suc (m + n) = omega arith in
+    rw (e, z) (ap (λ (b : Bool). f k && b) (all-split f (k + 1) m n) ∙ and-assoc (f k) _ _)
+
+pub line-in : (p : List ℤ)
+    → branchIn L p ≡ (allBetween (negℤ (pos 100000000)) (pos 100000000) p 1 6 && allBetween (negℤ (pos 100000000)) (pos 100000000) p 7 12)
+unfolding branchIn allBetween columnOf all count tab
+line-in p = all-split (λ j. between (negℤ (pos 100000000)) (pos 100000000) (nth p j)) 1 6 6
+
+pub regulator-in : (p : List ℤ) → branchIn R p ≡ allBetween (negℤ (pos 16)) (pos 16) p 1 3
+unfolding branchIn allBetween columnOf all count tab
+regulator-in p = refl
+
+pub transformer-in : (p : List ℤ) → branchIn Y p ≡ (allBetween (pos 1) (pos 1000000) p 1 2 && allBetween (negℤ (pos 100000000)) (pos 100000000) p 3 8)
+unfolding branchIn allBetween columnOf all count tab
+transformer-in p = and-three (between (pos 1) (pos 1000000) (nth p 1)) (between (pos 1) (pos 1000000) (nth p 2)) _
+
+-- ---- the columns that are due 0
+between-zero : (z : ℤ) → between (pos 0) (pos 0) z ≡ inside 0 z
+unfolding inside
+between-zero (pos n) = simp leb·zero
+between-zero (negsuc n) = simp leb·suc-zero
+
+pub zero-between : (p : List ℤ) (first last : ℕ) → allBetween (pos 0) (pos 0) p first last ≡ allZero p first last
+unfolding allBetween allZero
+zero-between p first last = simp between-zero
+
+abbrev pub zeroUnless : Bool → Bool → List ℤ → ℕ → ℕ → Bool
+zeroUnless x y p first last = cond (x && y) true (allZero p first last)
+
+-- one column, and two, of one phase or of two
+one-due : (x a r : Bool) → (cond (x && true) true a && r) ≡ (cond (x && x) true (a && true) && r)
+one-due true a r = refl
+one-due false a r = ap (λ (b : Bool). b && r) (sym (and-true a))
+
+own-due : (x a b : Bool) {r s : Bool} → r ≡ s → (cond (x && true) true a && (cond (x && true) true b && r)) ≡ (cond (x && x) true (a && (b && true)) && s)
+own-due true a b e = e
+own-due false a b {s = s} e = ap (λ (t : Bool). a && (b && t)) e ∙ and-three a b s
+
+mutual-due : (x y a b : Bool) {r s : Bool} → r ≡ s
+    → (cond (x && (y && true)) true a && (cond (x && (y && true)) true b && r)) ≡ (cond (x && y) true (a && (b && true)) && s)
+mutual-due true true a b e = e
+mutual-due true false a b {s = s} e = ap (λ (t : Bool). a && (b && t)) e ∙ and-three a b s
+mutual-due false y a b {s = s} e = ap (λ (t : Bool). a && (b && t)) e ∙ and-three a b s
+
+pub line-zeros : (f : Phases) (p : List ℤ)
+    → zeros L f p ≡ (zeroUnless (f .a) (f .a) p 1 2 && (zeroUnless (f .a) (f .b) p 3 4 && (zeroUnless (f .a) (f .c) p 5 6
+    && (zeroUnless (f .b) (f .b) p 7 8 && (zeroUnless (f .b) (f .c) p 9 10 && zeroUnless (f .c) (f .c) p 11 12)))))
+unfolding zeros allZero columnOf all count tab
+line-zeros f p =
+    own-due (f .a) (inside 0 (nth p 1)) (inside 0 (nth p 2))
+    (mutual-due (f .a) (f .b) (inside 0 (nth p 3)) (inside 0 (nth p 4))
+    (mutual-due (f .a) (f .c) (inside 0 (nth p 5)) (inside 0 (nth p 6))
+    (own-due (f .b) (inside 0 (nth p 7)) (inside 0 (nth p 8))
+    (mutual-due (f .b) (f .c) (inside 0 (nth p 9)) (inside 0 (nth p 10))
+    (own-due (f .c) (inside 0 (nth p 11)) (inside 0 (nth p 12)) refl ∙ and-true _)))))
+
+pub regulator-zeros : (f : Phases) (p : List ℤ)
+    → zeros R f p ≡ (zeroUnless (f .a) (f .a) p 1 1 && (zeroUnless (f .b) (f .b) p 2 2 && (zeroUnless (f .c) (f .c) p 3 3 && allZero p 4 12)))
+unfolding zeros allZero columnOf all count tab
+regulator-zeros f p =
+    one-due (f .a) (inside 0 (nth p 1)) _
+    ∙ ap (λ (b : Bool). zeroUnless (f .a) (f .a) p 1 1 && b)
+    (one-due (f .b) (inside 0 (nth p 2)) _
+    ∙ ap (λ (b : Bool). zeroUnless (f .b) (f .b) p 2 2 && b) (one-due (f .c) (inside 0 (nth p 3)) _))
+
+pub transformer-zeros : (f : Phases) (p : List ℤ) → zeros Y f p ≡ allZero p 9 12
+unfolding zeros allZero columnOf all count tab
+transformer-zeros f p = refl
+
+-- ---- the first n of a list, by their places counted from 1
 all-places : {X : Type 0} (f : X → Bool) (g : ℕ → X) (k n : ℕ) → all f (tab g k n) ≡ all (λ j. f (g j)) (count k n)
 unfolding all count tab
 all-places f g k zero = refl

@@ -1,106 +1,30 @@
 // Refusals 11 and 24 of document 01 over rows that are read: a number out of its limit, and one that is not 0 where 0 is due.
-ghost use mathlib.Core.Bool.{cond, true};
+ghost use mathlib.Core.Bool.{_&&_};
+ghost use mathlib.Core.List.{List};
 ghost use mathlib.Core.Path.{_≡_};
-ghost use Prim.Native.Nat.{_≤_};
-ghost use lib.ListN.{take};
-ghost use Rattle.feeder.specs.Feeder.{allOf, between, branchIn, columnOf, impedance, inLimit, loadIn, sourceIn, tap, zeroIfDue, zeros};
-ghost use Rattle.feeder.specs.Layout.{phaseSet};
-ghost use Rattle.feeder.specs.Network.{noBranchRow, noLoadRow};
+ghost use Prim.Native.Nat.{_≤_, ℕ};
+ghost use lib.IntN.{negℤ, pos};
+ghost use lib.ListN.{drop, length, take};
+ghost use Rattle.arrays.specs.Arrays.{branchRows, loadRows, numberedBranches};
+ghost use Rattle.feeder.specs.Feeder.{between, branchIn, firstRow, sourceIn, zeros};
+ghost use Rattle.feeder.specs.declared.BranchRow.{BranchRow};
 ghost use Rattle.feeder.specs.declared.Kind.the-variants.{L, R, Y};
-ghost use Rattle.integers.specs.Lists.{all, count};
+ghost use Rattle.feeder.specs.declared.LoadRow.{LoadRow};
+ghost use Rattle.integers.specs.Lists.{all};
 ghost use Rattle.integers.specs.Pairs.{inside};
-ghost use Rattle.limits.specs.Columns.{columnHolds};
-ghost use Rattle.limits.specs.FirstRow.{FirstOf, branchOut, loadOut, notZeroRow};
+ghost use Rattle.limits.specs.Columns.{allBetween, allZero, zeroUnless};
+ghost use Rattle.limits.specs.FirstRow.{branchOut, loadOut, notZeroRow, powersIn, rowIn, rowZeros};
 use answers::Found;
-use feeder::BranchRow;
-use feeder::Column;
+use arrays::Branches;
+use arrays::Loads;
+use arrays::kind_of;
+use arrays::p_at;
+use arrays::phases_of;
 use feeder::Kind;
-use feeder::LoadRow;
 use feeder::Phases;
+use integers::Pair;
 use integers::pairs;
 use integers::whole;
-
-fn impedance(a: bool, b: bool, c: bool) -> Column
-    ensures { λ r. ⌜ r ≡ impedance (phaseSet a b c) ⌝ }
-{
-    Column::Given(-100_000_000, 100_000_000, Phases { a: a, b: b, c: c })
-}
-
-fn tap(a: bool, b: bool, c: bool) -> Column
-    ensures { λ r. ⌜ r ≡ tap (phaseSet a b c) ⌝ }
-{
-    Column::Given(-16, 16, Phases { a: a, b: b, c: c })
-}
-
-// aa, ab, ac, bb, bc, cc, two columns each.
-fn line_column(j: usize) -> Column
-    ensures { λ r. ⌜ r ≡ columnOf L j ⌝ }
-{
-    if j < 3 {
-        return impedance(true, false, false);
-    }
-    if j < 5 {
-        return impedance(true, true, false);
-    }
-    if j < 7 {
-        return impedance(true, false, true);
-    }
-    if j < 9 {
-        return impedance(false, true, false);
-    }
-    if j < 11 {
-        return impedance(false, true, true);
-    }
-    if j < 13 {
-        return impedance(false, false, true);
-    }
-    Column::Unused
-}
-
-fn regulator_column(j: usize) -> Column
-    ensures { λ r. ⌜ r ≡ columnOf R j ⌝ }
-{
-    if j < 2 {
-        return tap(true, false, false);
-    }
-    if j < 3 {
-        return tap(false, true, false);
-    }
-    if j < 4 {
-        return tap(false, false, true);
-    }
-    Column::Unused
-}
-
-// Turns, then impedances of phases that are all there.
-fn transformer_column(j: usize) -> Column
-    ensures { λ r. ⌜ r ≡ columnOf Y j ⌝ }
-{
-    if j < 3 {
-        let none = Phases {
-            a: false,
-            b: false,
-            c: false,
-        };
-        return Column::Given(1, 1_000_000, none);
-    }
-    if j < 9 {
-        return impedance(false, false, false);
-    }
-    Column::Unused
-}
-
-// What column pj is in a kind of row.
-pub fn column_of(kind: Kind, j: usize) -> Column
-    ensures { λ r. ⌜ r ≡ columnOf kind j ⌝ }
-{
-    match kind {
-        Kind::L => line_column(j),
-        Kind::R => regulator_column(j),
-        Kind::Y => transformer_column(j),
-        Kind::D => transformer_column(j),
-    }
-}
 
 fn between(lo: i64, hi: i64, z: i64) -> bool
     ensures { λ r. ⌜ r ≡ between lo hi z ⌝ }
@@ -108,68 +32,15 @@ fn between(lo: i64, hi: i64, z: i64) -> bool
     lo <= z && z <= hi
 }
 
-pub fn in_limit(c: Column, z: i64) -> bool
-    ensures { λ r. ⌜ r ≡ inLimit c z ⌝ }
+// Whether p_first to p_last of a row are each at least lo and at most hi.
+fn all_between(n: &[i64; 17], first: usize, last: usize, lo: i64, hi: i64) -> bool
+    requires { ⌜ (1 ≤ first) × (last ≤ 12) ⌝ }
+    ensures { λ r. ⌜ r ≡ allBetween lo hi (drop 5 (now (n .entry))) first last ⌝ }
 {
-    match c {
-        Column::Given(lo, hi, _) => between(lo, hi, z),
-        Column::Unused => true,
-    }
-}
-
-// Whether a phase is absent in f, or there in g.
-fn covers(f: bool, g: bool) -> bool
-    ensures { λ r. ⌜ r ≡ cond f g true ⌝ }
-{
-    if f { g } else { true }
-}
-
-// Whether all phases of f are among g's.
-pub fn all_of(f: Phases, g: Phases) -> bool
-    ensures { λ r. ⌜ r ≡ allOf f g ⌝ }
-{
-    if !covers(f.a, g.a) {
-        return false;
-    }
-    if !covers(f.b, g.b) {
-        return false;
-    }
-    covers(f.c, g.c)
-}
-
-pub fn zero_if_due(f: Phases, c: Column, z: i64) -> bool
-    ensures { λ r. ⌜ r ≡ zeroIfDue f c z ⌝ }
-{
-    match c {
-        Column::Given(_, _, g) => {
-            if all_of(g, f) {
-                return true;
-            }
-            whole::inside(z, 0)
-        }
-        Column::Unused => whole::inside(z, 0),
-    }
-}
-
-// One of the two tests of a column: 24's where `due` is true, 11's where it is not.
-fn column_holds(due: bool, f: Phases, c: Column, z: i64) -> bool
-    ensures { λ r. ⌜ r ≡ cond due (zeroIfDue f c z) (inLimit c z) ⌝ }
-{
-    if due {
-        zero_if_due(f, c, z)
-    } else {
-        in_limit(c, z)
-    }
-}
-
-// That test of p1 to p12, in a row of phases f.
-fn columns_hold(due: bool, kind: Kind, f: Phases, p: [i64; 12]) -> bool
-    ensures { λ r. ⌜ r ≡ all (columnHolds due kind f p) (count 1 12) ⌝ }
-{
-    let mut j = 1;
-    while j <= 12 {
-        let z = p[j - 1];
-        if !column_holds(due, f, column_of(kind, j), z) {
+    let mut j = first;
+    while j <= last {
+        let z = p_at(n, j);
+        if !between(lo, hi, z) {
             return false;
         }
         j += 1;
@@ -177,23 +48,120 @@ fn columns_hold(due: bool, kind: Kind, f: Phases, p: [i64; 12]) -> bool
     true
 }
 
-// Whether p1 to p12 are in their limits.
-pub fn branch_in(kind: Kind, p: [i64; 12]) -> bool
-    ensures { λ r. ⌜ r ≡ branchIn kind p ⌝ }
+fn impedances_in(n: &[i64; 17], first: usize, last: usize) -> bool
+    requires { ⌜ (1 ≤ first) × (last ≤ 12) ⌝ }
+    ensures { λ r. ⌜ r ≡ allBetween (negℤ (pos 100000000)) (pos 100000000) (drop 5 (now (n .entry))) first last ⌝ }
 {
-    let any = Phases {
-        a: false,
-        b: false,
-        c: false,
-    };
-    columns_hold(false, kind, any, p)
+    all_between(n, first, last, -100_000_000, 100_000_000)
 }
 
-// Whether those of p1 to p12 that are due 0 in a row of phases f are 0.
-pub fn zeros_hold(kind: Kind, f: Phases, p: [i64; 12]) -> bool
-    ensures { λ r. ⌜ r ≡ zeros kind f p ⌝ }
+// In two parts of six columns, which are compiled without a loop.
+fn line_in(n: &[i64; 17]) -> bool
+    ensures { λ r. ⌜ r ≡ branchIn L (drop 5 (now (n .entry))) ⌝ }
 {
-    columns_hold(true, kind, f, p)
+    if !impedances_in(n, 1, 6) {
+        return false;
+    }
+    impedances_in(n, 7, 12)
+}
+
+// Turns, then impedances. D has the columns of Y.
+fn transformer_in(n: &[i64; 17]) -> bool
+    ensures { λ r. ⌜ r ≡ branchIn Y (drop 5 (now (n .entry))) ⌝ }
+{
+    if !all_between(n, 1, 2, 1, 1_000_000) {
+        return false;
+    }
+    impedances_in(n, 3, 8)
+}
+
+// Whether p1 to p12 of a row are in their limits.
+fn branch_in(n: &[i64; 17]) -> bool
+    ensures { λ r. ⌜ r ≡ rowIn (now (n .entry)) ⌝ }
+{
+    let kind = kind_of(n[4]);
+    match kind {
+        Kind::L => line_in(n),
+        Kind::R => all_between(n, 1, 3, -16, 16),
+        Kind::Y => transformer_in(n),
+        Kind::D => transformer_in(n),
+    }
+}
+
+fn all_zero(n: &[i64; 17], first: usize, last: usize) -> bool
+    requires { ⌜ (1 ≤ first) × (last ≤ 12) ⌝ }
+    ensures { λ r. ⌜ r ≡ allZero (drop 5 (now (n .entry))) first last ⌝ }
+{
+    all_between(n, first, last, 0, 0)
+}
+
+fn both(x: bool, y: bool) -> bool
+    ensures { λ r. ⌜ r ≡ (x && y) ⌝ }
+{
+    x && y
+}
+
+// Whether p_first to p_last of a row are 0, or the row has both of the phases that they belong to.
+fn zero_unless(x: bool, y: bool, n: &[i64; 17], first: usize, last: usize) -> bool
+    requires { ⌜ (1 ≤ first) × (last ≤ 12) ⌝ }
+    ensures { λ r. ⌜ r ≡ zeroUnless x y (drop 5 (now (n .entry))) first last ⌝ }
+{
+    if both(x, y) {
+        return true;
+    }
+    all_zero(n, first, last)
+}
+
+// aa, ab, ac, bb, bc, cc, two columns each.
+fn line_zeros(f: Phases, n: &[i64; 17]) -> bool
+    ensures { λ r. ⌜ r ≡ zeros L f (drop 5 (now (n .entry))) ⌝ }
+{
+    if !zero_unless(f.a, f.a, n, 1, 2) {
+        return false;
+    }
+    if !zero_unless(f.a, f.b, n, 3, 4) {
+        return false;
+    }
+    if !zero_unless(f.a, f.c, n, 5, 6) {
+        return false;
+    }
+    if !zero_unless(f.b, f.b, n, 7, 8) {
+        return false;
+    }
+    if !zero_unless(f.b, f.c, n, 9, 10) {
+        return false;
+    }
+    zero_unless(f.c, f.c, n, 11, 12)
+}
+
+// Three taps.
+fn regulator_zeros(f: Phases, n: &[i64; 17]) -> bool
+    ensures { λ r. ⌜ r ≡ zeros R f (drop 5 (now (n .entry))) ⌝ }
+{
+    if !zero_unless(f.a, f.a, n, 1, 1) {
+        return false;
+    }
+    if !zero_unless(f.b, f.b, n, 2, 2) {
+        return false;
+    }
+    if !zero_unless(f.c, f.c, n, 3, 3) {
+        return false;
+    }
+    all_zero(n, 4, 12)
+}
+
+// Whether those of p1 to p12 of a row that are due 0 are 0.
+fn zeros_hold(n: &[i64; 17]) -> bool
+    ensures { λ r. ⌜ r ≡ rowZeros (now (n .entry)) ⌝ }
+{
+    let kind = kind_of(n[4]);
+    let f = phases_of(n);
+    match kind {
+        Kind::L => line_zeros(f, n),
+        Kind::R => regulator_zeros(f, n),
+        Kind::Y => all_zero(n, 9, 12),
+        Kind::D => all_zero(n, 9, 12),
+    }
 }
 
 fn voltages_in(given: [i64; 8]) -> bool
@@ -225,19 +193,22 @@ pub fn source_in(given: [i64; 8]) -> bool
     between(1, 100, sweeps)
 }
 
-pub fn load_in(l: LoadRow) -> bool
-    ensures { λ r. ⌜ r ≡ loadIn l ⌝ }
+// Whether vn, p and q of a load row are in their limits.
+fn load_in(n: &[i64; 6]) -> bool
+    ensures { λ r. ⌜ r ≡ powersIn (now (n .entry)) ⌝ }
 {
-    if !between(1, 2_000_000, l.vn) {
+    let vn = n[3];
+    if !between(1, 2_000_000, vn) {
         return false;
     }
-    pairs::within(l.s, 3_000_000)
+    let s = Pair { re: n[4], im: n[5] };
+    pairs::within(s, 3_000_000)
 }
 
-// 11 in the branch table: the first line with a number out of its limit, or behind 200 rows. `rows` has the first 200 of the file's `count` rows.
-pub fn first_branch_out(rows: [BranchRow; 200], count: usize) -> Found
+// 11 in the branch table: the first line with a number out of its limit, or behind 200 rows. `branches` has the first 200 of the file's `count` rows.
+pub fn first_branch_out(branches: &Branches, count: usize) -> Found
     requires { ⌜ count ≤ 65536 ⌝ }
-    ensures { λ r. ⌜ FirstOf branchOut 4 noBranchRow 200 rows count r ⌝ }
+    ensures { λ r. ⌜ ((bs : List BranchRow) → now (branches .entry) ≡ branchRows bs → count ≡ length bs → r ≡ firstRow branchOut 4 1 bs) ⌝ }
 {
     let mut k = 1;
     while k <= count {
@@ -245,10 +216,8 @@ pub fn first_branch_out(rows: [BranchRow; 200], count: usize) -> Found
         if 200 < k {
             return Found::At(line);
         }
-        let b = rows[k - 1];
-        let kind = b.kind;
-        let p = b.p;
-        if !branch_in(kind, p) {
+        let n = branches[k];
+        if !branch_in(&n) {
             return Found::At(line);
         }
         k += 1;
@@ -257,10 +226,10 @@ pub fn first_branch_out(rows: [BranchRow; 200], count: usize) -> Found
 }
 
 // 11 in the load table, whose row k stands in line `before` + k; 300 rows.
-pub fn first_load_out(rows: [LoadRow; 300], count: usize, before: usize) -> Found
+pub fn first_load_out(loads: &Loads, count: usize, before: usize) -> Found
     requires { ⌜ count ≤ 65536 ⌝ }
     requires { ⌜ before ≤ 65542 ⌝ }
-    ensures { λ r. ⌜ FirstOf loadOut before noLoadRow 300 rows count r ⌝ }
+    ensures { λ r. ⌜ ((ls : List LoadRow) → now (loads .entry) ≡ loadRows ls → count ≡ length ls → r ≡ firstRow loadOut before 1 ls) ⌝ }
 {
     let mut k = 1;
     while k <= count {
@@ -268,8 +237,8 @@ pub fn first_load_out(rows: [LoadRow; 300], count: usize, before: usize) -> Foun
         if 300 < k {
             return Found::At(line);
         }
-        let l = rows[k - 1];
-        if !load_in(l) {
+        let n = loads[k - 1];
+        if !load_in(&n) {
             return Found::At(line);
         }
         k += 1;
@@ -278,17 +247,14 @@ pub fn first_load_out(rows: [LoadRow; 300], count: usize, before: usize) -> Foun
 }
 
 // 24: the first line with a number that is not 0 where 0 is due.
-pub fn first_not_zero(rows: [BranchRow; 200], count: usize) -> Found
+pub fn first_not_zero(branches: &Branches, count: usize) -> Found
     requires { ⌜ count ≤ 200 ⌝ }
-    ensures { λ r. ⌜ FirstOf notZeroRow 4 noBranchRow 200 rows count r ⌝ }
+    ensures { λ r. ⌜ ((nodes : List ℕ) (bs : List BranchRow) → now (branches .entry) ≡ numberedBranches nodes bs → count ≡ length bs → r ≡ firstRow notZeroRow 4 1 bs) ⌝ }
 {
     let mut k = 1;
     while k <= count {
-        let b = rows[k - 1];
-        let kind = b.kind;
-        let phases = b.phases;
-        let p = b.p;
-        if !zeros_hold(kind, phases, p) {
+        let n = branches[k];
+        if !zeros_hold(&n) {
             return Found::At(4 + k);
         }
         k += 1;

@@ -1,4 +1,5 @@
 pub mod Rest
 pub mod Slots
+pub mod Numbering
 pub mod Numbered
 pub mod NumberedLaws

@@ -1,17 +1,15 @@
 -- The arrays that hold a file's rows by node numbers, and refusal 23 as it is read off them. Assumes nothing.
 use mathlib.Core.Bool.{Bool, _&&_, cond, not, true}
-use mathlib.Core.List.{List, [], _∷_}
+use mathlib.Core.List.{List, _∷_}
 use Prim.Native.Nat.{ℕ}
 use lib.Dec.{eqb, ltb}
 use lib.ListN.{getD}
-use Rattle.feeder.specs.Feeder.{allOf, allPhases, feederOf, has, noBranch, noPhases, nodesOf, placeOf}
+use Rattle.feeder.specs.Feeder.{allOf, allPhases, feederOf, has, noBranch, nodesOf, placeOf}
 use Rattle.feeder.specs.Layout.{Rows}
 use Rattle.feeder.specs.Network.{kept, noLoad}
 use Rattle.feeder.specs.declared.Branch.{Branch}
-use Rattle.feeder.specs.declared.BranchRow.{BranchRow}
 use Rattle.feeder.specs.declared.Device.{Device}
 use Rattle.feeder.specs.declared.Device.the-variants.{Line, Regulator, Transformer}
-use Rattle.feeder.specs.declared.Kind.the-variants.{L}
 use Rattle.feeder.specs.declared.Load.{Load}
 use Rattle.feeder.specs.declared.Phases.{Phases}
 
@@ -50,7 +48,3 @@ branchAbsent bs k b = not (allOf (b .phases) (phasesIn bs (getD bs k noBranch .f
 
 unfoldable pub loadAbsent : List Branch → ℕ → Load → Bool
 loadAbsent bs k l = not (has (phasesIn bs (l .node)) (l .phase))
-
--- what a read past the end of an array of rows would be: the proofs of loops over such an array name it
-abbrev pub unread : BranchRow
-unread = record { from = 0; to = 0; phases = noPhases; kind = L; p = [] }

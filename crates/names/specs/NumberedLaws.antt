@@ -1,6 +1,6 @@
 -- A file's rows, and the arrays that hold them by node numbers. Assumes nothing.
-use mathlib.Core.Bool.{Bool, _&&_, cond, false, not, true}
-use mathlib.Core.List.{List, _∷_, map}
+use mathlib.Core.Bool.{_&&_, false, not, true}
+use mathlib.Core.List.{List, [], _∷_}
 use mathlib.Core.Path.{_∙_, _≡_, ap, refl, sym}
 use Prim.Native.Nat.{_+_, _<_, _≤_, suc, zero, ℕ}
 use native.Mathlib.Decide.{decLt}
@@ -11,9 +11,11 @@ use lib.IntN.{ℤ}
 use lib.ListN.{List·getD-eq-default, drop, getD, length, length-map, take}
 use borrow.Author.Tests.{le-ltb, lt-ltb, ltb-false, ne-eqb}
 use Rattle.answers.specs.declared.Found.the-variants.{Nothing}
+use Rattle.arrays.specs.ArrayLaws.{branch-at as row-at, branches-numbered, loads-numbered}
+use Rattle.arrays.specs.Arrays.{branchOf as rowOf, branchesOf, kindOf, loadsOf, numberedBranches, numberedLoads, toNames}
 use Rattle.feeder.specs.Feeder.{allOf, branchAt, branchOf, deviceOf, feederOf, firstRow, has, known, loadOf, noBranch, noPhases, nodesOf, orElse, parent, phaseAbsent, phasesOf, placeOf, secondTo, threePhase, unknownFrom}
 use Rattle.feeder.specs.Layout.{Rows}
-use Rattle.feeder.specs.Network.{kept, noLoad}
+use Rattle.feeder.specs.Network.{noLoad}
 use Rattle.feeder.specs.NetworkLaws.{getD-kept, take-kept}
 use Rattle.feeder.specs.RowLaws.{none-bad}
 use Rattle.feeder.specs.declared.Branch.{Branch}
@@ -23,7 +25,7 @@ use Rattle.feeder.specs.declared.Load.{Load}
 use Rattle.feeder.specs.declared.Phase.{Phase}
 use Rattle.feeder.specs.declared.Phase.the-variants.{A, B, C}
 use Rattle.feeder.specs.declared.Phases.{Phases}
-use Rattle.integers.specs.Lists.{all}
+use Rattle.text.specs.Lines.{nth}
 use Rattle.names.specs.Numbered.{branchAbsent, branchesIn, fromUnknown, loadAbsent, loadsIn, nodesIn, phasesIn, threePhaseOf, toSecond}
 use Rattle.names.specs.Rest.{first-image, rest}
 
@@ -35,14 +37,9 @@ threes R p f = refl
 threes Y p f = refl
 threes D p f = refl
 
-and-true : (x : Bool) → (x && true) ≡ x
-and-true true = refl
-and-true false = refl
-
--- phase by phase
-pub all-phases : (f g : Phases) → allOf f g ≡ (cond (f .a) (g .a) true && (cond (f .b) (g .b) true && cond (f .c) (g .c) true))
-unfolding all
-all-phases f g = rw (and-true (cond (f .c) (g .c) true))
+pub three-at : (l : List (List ℤ)) (k : ℕ) (f : Phases) → threePhaseOf (getD (branchesOf l) k noBranch .device) f ≡ threePhase (kindOf (nth (getD l k []) 5)) f
+unfolding rowOf
+three-at l k f = rw (row-at l k) (threes (kindOf (nth (getD l k []) 5)) (drop 5 (getD l k [])) f)
 
 has-none : (p : Phase) → has noPhases p ≡ false
 has-none A = refl
@@ -69,29 +66,25 @@ module _ (r : Rows) (count : ℕ) (size : count ≡ length (r .branches)) where
     pub take-nodes : take (count + 1) (nodesIn r) ≡ nodesOf r
     take-nodes = rw (sym length-nodes) (take-kept 0 201 (nodesOf r) (rw length-nodes (omega arith)))
 
-    -- the branches from place 0 on, and from place 1 on
+    -- the branches from place 0 on
     whole : length (noBranch ∷ feederOf r .branches) ≡ count + 1
     whole = rw (add-one, length-branches)
 
-    pub take-branches : take (count + 1) (branchesIn r) ≡ noBranch ∷ feederOf r .branches
+    take-branches : take (count + 1) (branchesIn r) ≡ noBranch ∷ feederOf r .branches
     take-branches = rw (sym whole) (take-kept noBranch 201 (noBranch ∷ feederOf r .branches) (rw whole (omega arith)))
 
-    pub branches-in : take count (drop 1 (branchesIn r)) ≡ feederOf r .branches
-    unfolding kept
-    branches-in = rw (sym length-branches) (take-kept noBranch 200 (feederOf r .branches) (rw length-branches few))
-
     -- what the calls fill the arrays with
-    pub nodes-kept : kept 0 201 (r .source ∷ map (λ b. b .to) (r .branches)) ≡ nodesIn r
+    pub nodes-kept : toNames (r .source) (r .branches) ≡ nodesIn r
     unfolding nodesOf
     nodes-kept = refl
 
-    pub branches-kept : kept noBranch 201 (noBranch ∷ map (branchOf (take (count + 1) (nodesIn r))) (r .branches)) ≡ branchesIn r
+    pub branches-kept : branchesOf (numberedBranches (take (count + 1) (nodesIn r)) (r .branches)) ≡ branchesIn r
     unfolding feederOf
-    branches-kept = rw take-nodes
+    branches-kept = branches-numbered (take (count + 1) (nodesIn r)) (r .branches) ∙ rw take-nodes
 
-    pub loads-kept : kept noLoad 300 (map (loadOf (take (count + 1) (nodesIn r))) (r .loads)) ≡ loadsIn r
+    pub loads-kept : loadsOf (numberedLoads (take (count + 1) (nodesIn r)) (r .loads)) ≡ loadsIn r
     unfolding feederOf
-    loads-kept = rw take-nodes
+    loads-kept = loads-numbered (take (count + 1) (nodesIn r)) (r .loads) ∙ rw take-nodes
 
     -- each branch, and each from-number
     pub branch-at : (k : ℕ) → getD (branchesIn r) k noBranch ≡ branchAt (feederOf r) k

@@ -1,17 +1,17 @@
--- A list as a loop passes over it: what is left from a place on, the first line with a fault, and an array that is filled. Assumes nothing.
+-- A list as a loop passes over it: what is left from a place on, the first line with a fault, and an array that is changed row by row. Assumes nothing.
 use mathlib.Core.Bool.{Bool, false, true}
-use mathlib.Core.List.{List, [], _++_, _∷_, append-assoc, map, map-append}
-use mathlib.Core.Path.{_≡_, ap, refl, sym}
+use mathlib.Core.List.{List, [], _++_, _∷_, map}
+use mathlib.Core.Path.{_≡_, ap, refl}
 use Prim.Native.Nat.{_+_, _<_, _≤_, suc, zero, ℕ}
+use native.Mathlib.Decide.{ℕ-discrete}
 use native.Mathlib.Numerals.{add-one}
 use native.Mathlib.Omega.{arith}
-use lib.ListN.{drop, drop-of-length-le, getD, length, length-append, length-map, replicate, set, take}
-use lib.Seq.{drop-cons, getD-take, length-take-le, take-suc}
+use lib.ListN.{drop, drop-of-length-le, getD, length, set, take}
+use lib.Seq.{drop-cons, getD-take, length-take-le}
 use borrow.Author.Tests.{eq-eqb, ne-eqb}
 use Rattle.answers.specs.declared.Found.the-variants.{At, Nothing}
 use Rattle.feeder.specs.Feeder.{firstRow, placeOf}
 use Rattle.feeder.specs.Network.{kept}
-use Rattle.feeder.specs.NetworkLaws.{kept-next, take-kept}
 
 -- what is left of the first n from place i on
 abbrev pub rest : {X : Type 0} → ℕ → ℕ → List X → List X
@@ -60,25 +60,41 @@ module _ (name : ℕ) (l : List ℕ) (n i : ℕ) (q : n ≤ length l) where
   unfolding placeOf
   place-end p = rw (rest-end l n i q p)
 
--- ---- an array that is filled, at first with the same in every place
-pub kept-nothing : {X : Type 0} (d : X) (n : ℕ) → replicate n d ≡ kept d n []
-unfolding kept
-kept-nothing d zero = refl
-kept-nothing d (suc n) = ap (λ (l : List _). d ∷ l) (kept-nothing d n)
+-- it is one of the names' places, or the number behind the last
+pub place-within : (name : ℕ) (l : List ℕ) (n : ℕ) → placeOf name (take n l) ≤ n
+unfolding placeOf
+place-within name l zero = omega arith
+place-within name [] (suc n) = omega arith
+place-within name (x ∷ l) (suc n) =
+    elim (ℕ-discrete name x) [
+      | yes h ↦ rw (eq-eqb name x h) (omega arith)
+      | no h ↦ rw (ne-eqb name x h) (omega (arith, place-within name l n))
+    ]
 
-pub kept-one : {X : Type 0} (d : X) (n : ℕ) → 0 < n → replicate n d ≡ kept d n (d ∷ [])
-unfolding kept
-kept-one d zero h = absurd (omega arith)
-kept-one d (suc n) h = kept-nothing d (suc n)
+-- ---- an array of which one row after the other is changed: the first i hold the image by g, those behind them still that by h
+abbrev pub partly : {X Y : Type 0} → (X → Y) → (X → Y) → ℕ → List X → List Y
+partly g h i l = map g (take i l) ++ map h (drop i l)
 
--- behind the values `first` the images of the rows before place i; one more
-pub fill-next : {X Y : Type 0} (f : X → Y) (d : Y) (n : ℕ) (first : List Y) (e : X) (l : List X) (i at : ℕ) → i < length l → at ≡ length first + i → at < n →
-    set (kept d n (first ++ map f (take i l))) at (f (getD l i e)) ≡ kept d n (first ++ map f (take (i + 1) l))
-fill-next f d n first e l i at p s h =
-    let m : length (first ++ map f (take i l)) ≡ at = simp (length-append, length-map, length-take-le i l (omega arith)) (sym s) in
-    let g : length (first ++ map f (take i l)) < n = rw m h in
-    rw (add-one, take-suc l i e p, map-append, ← append-assoc, ← kept-next d n (first ++ map f (take i l)) (f (getD l i e)) g, m)
+module _ {X Y : Type 0} (g h : X → Y) (d : Y) where
+  pub partly-all : (l : List X) → partly g h (length l) l ≡ map g l
+  partly-all [] = refl
+  partly-all (x ∷ l) = ap (λ (r : List Y). g x ∷ r) (partly-all l)
 
--- all rows have passed, where the array keeps the rows bs
-pub all-kept : {X : Type 0} (d : X) (n : ℕ) (bs rows : List X) (count i : ℕ) → rows ≡ kept d n bs → count ≡ length bs → count ≤ n → i ≡ count → take i rows ≡ bs
-all-kept d n bs rows count i e c h s = rw (s, c, e) (take-kept d n bs (rw c at h))
+  partly-at : (n : ℕ) (l : List X) (e : X) (o : Y) (i : ℕ) → i < length l → i < n → getD (kept d n (partly g h i l)) i o ≡ h (getD l i e)
+  unfolding kept
+  partly-at zero l e o i p q = absurd (omega arith)
+  partly-at (suc n) [] e o i p q = absurd (omega arith)
+  partly-at (suc n) (x ∷ l) e o zero p q = refl
+  partly-at (suc n) (x ∷ l) e o (suc i) p q = partly-at n l e o i (omega arith) (omega arith)
+
+  partly-set : (n : ℕ) (l : List X) (e : X) (i : ℕ) → i < length l → set (kept d n (partly g h i l)) i (g (getD l i e)) ≡ kept d n (partly g h (suc i) l)
+  unfolding kept
+  partly-set zero l e i p = refl
+  partly-set (suc n) [] e i p = absurd (omega arith)
+  partly-set (suc n) (x ∷ l) e zero p = refl
+  partly-set (suc n) (x ∷ l) e (suc i) p = ap (λ (r : List Y). g x ∷ r) (partly-set n l e i (omega arith))
+
+  -- one more
+  pub partly-next : (change : Y → Y) (n : ℕ) (l : List X) (e : X) (o : Y) (i : ℕ) → i < length l → i < n → change (h (getD l i e)) ≡ g (getD l i e) →
+      set (kept d n (partly g h i l)) i (change (getD (kept d n (partly g h i l)) i o)) ≡ kept d n (partly g h (suc i) l)
+  partly-next change n l e o i p q s = rw (partly-at n l e o i p q, s) (partly-set n l e i p)

@@ -7,9 +7,10 @@ use native.Mathlib.Numerals.{add-one}
 use native.Mathlib.Omega.{arith}
 use lib.ListN.{getD, length, replicate, set, take}
 use lib.Seq.{getD-set-other, getD-set-same}
+use Rattle.arrays.specs.ArrayLaws.{blank-kept}
 use Rattle.feeder.specs.Feeder.{placeOf}
 use Rattle.feeder.specs.NetworkLaws.{getD-kept}
-use Rattle.names.specs.Rest.{kept-nothing, place-here, place-next, rest}
+use Rattle.names.specs.Rest.{place-here, place-next, rest}
 
 abbrev pub slotOf : ℕ → ℕ
 slotOf name = name % 4093
@@ -23,7 +24,7 @@ Slotted names slots = SlottedFrom 0 names slots
 
 -- ---- the table is filled from the last name to the first, and at first each slot holds 0
 pub slots-none : (i n : ℕ) (names : List ℕ) → SlottedFrom i names (replicate n 0)
-slots-none i n names = record { held = λ j p. rw (kept-nothing {X = ℕ} 0 n, getD-kept {X = ℕ} 0 n [] (slotOf (getD names j 0)) (omega arith)) (omega arith) }
+slots-none i n names = record { held = λ j p. rw (blank-kept {X = ℕ} 0 n, getD-kept {X = ℕ} 0 n [] (slotOf (getD names j 0)) (omega arith)) (omega arith) }
 
 pub slots-next : (i k slot place : ℕ) (names slots : List ℕ) → SlottedFrom k names slots → k ≤ i + 1 → slot ≡ slotOf (getD names i 0) → slot < length slots → place ≤ i →
     SlottedFrom i names (set slots slot place)

@@ -3,28 +3,33 @@ ghost use mathlib.Core.Path.{_≡_};
 ghost use Prim.Native.Nat.{ℕ, _+_, _<_, _≤_};
 ghost use mathlib.Core.Bool.{cond, true};
 ghost use lib.ListN.{getD, length, take};
-ghost use Rattle.feeder.specs.Feeder.{allOf, firstRow, has, noBranch, phaseAbsent, secondTo, unknownFrom};
+ghost use Rattle.arrays.specs.Arrays.{branchesOf, loadsOf};
+ghost use Rattle.feeder.specs.Feeder.{allOf, firstRow, has, noBranch, phaseAbsent, secondTo, threePhase, unknownFrom};
 ghost use Rattle.feeder.specs.Layout.{Rows};
-ghost use Rattle.names.specs.Numbered.{branchAbsent, branchesIn, loadAbsent, loadsIn, nodePhases, nodesIn, threePhaseOf};
+ghost use Rattle.names.specs.Numbered.{branchAbsent, branchesIn, loadAbsent, loadsIn, nodePhases, nodesIn};
 ghost use Rattle.names.specs.Rest.{rest};
+ghost use Rattle.names.specs.Slots.{Slotted};
 use crate::find;
-use crate::slots_of;
 use answers::Found;
-use feeder::Branch;
-use feeder::Device;
-use feeder::Load;
+use arrays::Branches;
+use arrays::Loads;
+use arrays::Names;
+use arrays::from_at;
+use arrays::kind_of;
+use arrays::load_at;
+use arrays::phases_at;
+use feeder::Kind;
 use feeder::Phase;
 use feeder::Phases;
 
 // 20: a from-name that no node has got the number behind the last, count + 1.
-pub fn first_unknown_from(branches: [Branch; 201], count: usize) -> Found
+pub fn first_unknown_from(branches: &Branches, count: usize) -> Found
     requires { ⌜ count ≤ 200 ⌝ }
-    ensures { λ found. ⌜ ((r : Rows) → branches ≡ branchesIn r → count ≡ length (r .branches) → found ≡ unknownFrom r) ⌝ }
+    ensures { λ found. ⌜ ((r : Rows) → branchesOf (now (branches .entry)) ≡ branchesIn r → count ≡ length (r .branches) → found ≡ unknownFrom r) ⌝ }
 {
     let mut k = 1;
     while k <= count {
-        let b = branches[k];
-        let from = b.from;
+        let from = from_at(branches, k);
         if count < from {
             return Found::At(4 + k);
         }
@@ -34,15 +39,14 @@ pub fn first_unknown_from(branches: [Branch; 201], count: usize) -> Found
 }
 
 // 21: the name of node k stands before place k.
-pub fn first_second_to(nodes: &[u64], count: usize) -> Found
+pub fn first_second_to(nodes: &Names, count: usize, slots: &[u8; 4093]) -> Found
     requires { ⌜ count ≤ 200 ⌝ }
-    requires { ⌜ count + 1 ≤ length (now nodes) ⌝ }
+    requires { ⌜ Slotted (now nodes) (now slots) ⌝ }
     ensures { λ found. ⌜ ((r : Rows) → now (nodes .entry) ≡ nodesIn r → count ≡ length (r .branches) → found ≡ secondTo r) ⌝ }
 {
-    let slots = slots_of(nodes, count + 1);
     let mut k = 1;
     while k <= count {
-        let place = find(nodes[k], nodes, count + 1, &slots);
+        let place = find(nodes[k], nodes, count + 1, slots);
         if place < k {
             return Found::At(4 + k);
         }
@@ -61,24 +65,24 @@ fn has_phase(phases: Phases, p: Phase) -> bool
     }
 }
 
-// Whether y holds where x does.
-fn implied(x: bool, y: bool) -> bool
-    ensures { λ r. ⌜ r ≡ cond x y true ⌝ }
+// Whether a phase is absent in f, or there in g.
+fn covers(f: bool, g: bool) -> bool
+    ensures { λ r. ⌜ r ≡ cond f g true ⌝ }
 {
-    if x {
-        return y;
-    }
-    true
+    if f { g } else { true }
 }
 
 // Whether all phases of f are among g's.
 fn all_of(f: Phases, g: Phases) -> bool
     ensures { λ r. ⌜ r ≡ allOf f g ⌝ }
 {
-    let a = implied(f.a, g.a);
-    let b = implied(f.b, g.b);
-    let c = implied(f.c, g.c);
-    a && (b && c)
+    if !covers(f.a, g.a) {
+        return false;
+    }
+    if !covers(f.b, g.b) {
+        return false;
+    }
+    covers(f.c, g.c)
 }
 
 // The phases of node k, which is fed by a branch with phases f: the source has all.
@@ -96,41 +100,39 @@ fn node_phases(k: usize, f: Phases) -> Phases
 }
 
 // A transformer has all phases.
-fn three_phase(d: Device, f: Phases) -> bool
-    ensures { λ r. ⌜ r ≡ threePhaseOf d f ⌝ }
+fn three_phase(kind: Kind, f: Phases) -> bool
+    ensures { λ r. ⌜ r ≡ threePhase kind f ⌝ }
 {
-    match d {
-        Device::Line(_) => true,
-        Device::Regulator(_) => true,
-        Device::Transformer(_) => all_of(
-            Phases {
-                a: true,
-                b: true,
-                c: true,
-            },
-            f,
-        ),
+    let all = Phases {
+        a: true,
+        b: true,
+        c: true,
+    };
+    match kind {
+        Kind::L => true,
+        Kind::R => true,
+        Kind::Y => all_of(all, f),
+        Kind::D => all_of(all, f),
     }
 }
 
 // 23, of a branch: its phases are not all at its from-node, or it is a transformer without all.
-fn first_branch_absent(branches: [Branch; 201], count: usize) -> Found
+fn first_branch_absent(branches: &Branches, count: usize) -> Found
     requires { ⌜ count ≤ 200 ⌝ }
-    requires { ⌜ ((k : ℕ) → getD branches k noBranch .from ≤ count) ⌝ }
-    ensures { λ found. ⌜ found ≡ firstRow (branchAbsent branches) 4 1 (rest 1 (count + 1) branches) ⌝ }
+    requires { ⌜ ((k : ℕ) → getD (branchesOf (now branches)) k noBranch .from ≤ count) ⌝ }
+    ensures { λ found. ⌜ (length (branchesOf (now (branches .entry))) ≡ 201 → found ≡ firstRow (branchAbsent (branchesOf (now (branches .entry)))) 4 1 (rest 1 (count + 1) (branchesOf (now (branches .entry))))) ⌝ }
 {
     let mut k = 1;
     while k <= count {
-        let b = branches[k];
-        let from = b.from;
-        let feeding = branches[from];
-        let there = node_phases(from, feeding.phases);
-        let phases = b.phases;
+        let from = from_at(branches, k);
+        let feeding = phases_at(branches, from);
+        let there = node_phases(from, feeding);
+        let phases = phases_at(branches, k);
         if !all_of(phases, there) {
             return Found::At(4 + k);
         }
-        let device = b.device;
-        if !three_phase(device, phases) {
+        let kind = kind_of(branches[k][4]);
+        if !three_phase(kind, phases) {
             return Found::At(4 + k);
         }
         k += 1;
@@ -139,25 +141,20 @@ fn first_branch_absent(branches: [Branch; 201], count: usize) -> Found
 }
 
 // 23, of a load: its node is unknown, or its phase is not there.
-fn first_load_absent(
-    branches: [Branch; 201],
-    count: usize,
-    loads: [Load; 300],
-    total: usize,
-) -> Found
+fn first_load_absent(branches: &Branches, count: usize, loads: &Loads, total: usize) -> Found
     requires { ⌜ count ≤ 200 ⌝ }
     requires { ⌜ total ≤ 300 ⌝ }
-    ensures { λ found. ⌜ (((k : ℕ) → count < k → getD branches k noBranch ≡ noBranch) → found ≡ firstRow (loadAbsent branches) (count + 6) 1 (take total loads)) ⌝ }
+    ensures { λ found. ⌜ (length (loadsOf (now (loads .entry))) ≡ 300 → ((k : ℕ) → count < k → getD (branchesOf (now (branches .entry))) k noBranch ≡ noBranch) → found ≡ firstRow (loadAbsent (branchesOf (now (branches .entry)))) (count + 6) 1 (take total (loadsOf (now (loads .entry))))) ⌝ }
 {
     let mut i = 0;
     while i < total {
-        let l = loads[i];
+        let l = load_at(loads, i);
         let node = l.node;
         if count < node {
             return Found::At(count + 7 + i);
         }
-        let feeding = branches[node];
-        let there = node_phases(node, feeding.phases);
+        let feeding = phases_at(branches, node);
+        let there = node_phases(node, feeding);
         let phase = l.phase;
         if !has_phase(there, phase) {
             return Found::At(count + 7 + i);
@@ -168,16 +165,11 @@ fn first_load_absent(
 }
 
 // 23
-pub fn first_phase_absent(
-    branches: [Branch; 201],
-    count: usize,
-    loads: [Load; 300],
-    total: usize,
-) -> Found
+pub fn first_phase_absent(branches: &Branches, count: usize, loads: &Loads, total: usize) -> Found
     requires { ⌜ count ≤ 200 ⌝ }
     requires { ⌜ total ≤ 300 ⌝ }
-    requires { ⌜ ((k : ℕ) → getD branches k noBranch .from ≤ count) ⌝ }
-    ensures { λ found. ⌜ ((r : Rows) → branches ≡ branchesIn r → count ≡ length (r .branches) → loads ≡ loadsIn r → total ≡ length (r .loads) → found ≡ phaseAbsent r) ⌝ }
+    requires { ⌜ ((k : ℕ) → getD (branchesOf (now branches)) k noBranch .from ≤ count) ⌝ }
+    ensures { λ found. ⌜ ((r : Rows) → branchesOf (now (branches .entry)) ≡ branchesIn r → count ≡ length (r .branches) → loadsOf (now (loads .entry)) ≡ loadsIn r → total ≡ length (r .loads) → found ≡ phaseAbsent r) ⌝ }
 {
     let found = first_branch_absent(branches, count);
     match found {

@@ -97,7 +97,7 @@ module _ {branches : List Branch} {rows : ℕ} {order rank : List ℕ} (w : Read
         sym (λ t. cond (beyond3 (is j q r t)) true (beyond3 (nearCurrent (branch-in f branches rows (w .linked .few) a j t) (is j q r t))))
 
     -- 32 applies at the node at place k
-    pub gathered-beyond : 0 < k → k ≤ rows → let m = getD order k 0 in cond (beyond3 (getD x m zero3)) true (beyond3 (taken branches x m)) ≡ true → UpwardIs f mine (record { ok = false; at = x })
+    pub gathered-beyond : 0 < k → k ≤ rows → let m = getD order k 0 in cond (beyond3 (getD x m zero3)) true (beyond3 (taken branches x m)) ≡ true → UpwardIs f mine false x
     unfolding currentBeyond
     gathered-beyond low high b =
         let n = turn w k low (omega arith) in
@@ -111,7 +111,7 @@ module _ {branches : List Branch} {rows : ℕ} {order rank : List ℕ} (w : Read
       (rank-most w j)
 
   pub gathered-all : k ≡ 0 → (f : Feeder) (mine : ℕ → Three) (a : InArrays f branches rows) (mine-is : (j : ℕ) → j < rows + 1 → getD own j zero3 ≡ mine j) →
-      UpwardIs f mine (record { ok = true; at = x })
+      UpwardIs f mine true x
   unfolding currentBeyond
   gathered-all e f mine a mine-is =
       let n = length-tab (upward f mine (rowCount f)) 0 (suc (rowCount f)) in

@@ -86,7 +86,7 @@ module _ (branches : List Branch) (rows : ℕ) (i : List Three) (each : List Pai
         sym (getD-map (lossOf f i) (count 1 (rowCount f)) j 0 0c (omega (arith, n, a .rows-are)) ∙
         ap (lossOf f i) (getD-tab (λ (b : ℕ). b) 1 (rowCount f) j 0 (omega (arith, a .rows-are)) ∙ (let z : 1 + j ≡ suc j = omega arith in z)))
 
-    pub lost-all : LossesAre f i (record { each = each; sum = sum })
+    pub lost-all : LossesAre f i each sum
     unfolding lostPower count
     lost-all =
         let n : length (0c ∷ map (lossOf f i) (rowsOf f)) ≡ rows + 1 = omega (arith, length-map (rowsOf f) (lossOf f i), length-tab (λ (b : ℕ). b) 1 (rowCount f), a .rows-are) in
@@ -97,5 +97,5 @@ module _ (branches : List Branch) (rows : ℕ) (i : List Three) (each : List Pai
           sum-is = l .sum-is ∙ ap₂ (λ (b n : ℕ). csum (lossIn branches i) (tab (λ (b : ℕ). b) b n)) one z ∙ (λ t. csum (λ j. loss-is j t) (tab (λ (b : ℕ). b) 1 (rowCount f)));
         }
 
-  pub lost-small : SmallLosses (record { each = each; sum = sum })
+  pub lost-small : SmallLosses each sum
   lost-small = record { long = l .long; each-small = l .small; sum-small = more (omega arith) (l .sum-small) }

@@ -2,12 +2,13 @@
 use mathlib.Core.Bool.{false, not, true}
 use mathlib.Core.List.{List}
 use mathlib.Core.Path.{_∙_, _≡_, ap, refl, sym}
-use Prim.Native.Nat.{_+_, _<_, _≤_, suc, zero, ℕ}
+use Prim.Native.Nat.{_+_, _<_, _≤_, suc, ℕ}
 use native.Mathlib.Omega.{arith}
-use lib.ListN.{getD, length, length-set, replicate, set}
+use lib.ListN.{getD, length, length-set, set}
 use lib.Seq.{getD-set-other, getD-set-same}
+use Rattle.arrays.specs.Arrays.{Spare}
 use Rattle.equations.specs.Equations.{beyond3, farVoltage, voltageBeyond, voltages, zero3}
-use Rattle.equations.specs.Sizes.{Within3, false-beyond3, within3-zero}
+use Rattle.equations.specs.Sizes.{Within3, false-beyond3}
 use Rattle.feeder.specs.Feeder.{Feeder, noBranch, rowCount}
 use Rattle.feeder.specs.declared.Branch.{Branch}
 use Rattle.feeder.specs.declared.Three.{Three}
@@ -21,6 +22,11 @@ use Rattle.radial.specs.Radial.{parentIn}
 abbrev pub below : List Branch → List Three → ℕ → Three → Three
 below branches i j u = farVoltage (getD branches j noBranch) u (getD i j zero3)
 
+-- what is worked in a turn, from a branch b, a voltage u and a current c that are read of the arrays
+pub below-is : (branches : List Branch) (i v : List Three) (m : ℕ) (b : Branch) (u c y : Three) → b ≡ getD branches m noBranch → u ≡ getD v (b .from) zero3 → c ≡ getD i m zero3 →
+    y ≡ farVoltage b u c → y ≡ below branches i m (getD v (parentIn branches m) zero3)
+below-is branches i v m b u c y eb eu ec e = e ∙ ap (λ (x : Three). farVoltage b x c) eu ∙ (λ t. farVoltage (eb t) (getD v (eb t .from) zero3) (ec t))
+
 abbrev pub Follows : List Branch → List Three → List Three → ℕ → Type 0
 Follows branches i v j = getD v j zero3 ≡ below branches i j (getD v (parentIn branches j) zero3)
 
@@ -30,26 +36,20 @@ pub record Lowered (branches : List Branch) (rows : ℕ) (order : List ℕ) (sou
   pub done : Done order (Follows branches i v) k
   pub behind : (j : ℕ) → rows < j → getD v j zero3 ≡ zero3
 
-zero-at : (n j : ℕ) → getD (replicate n zero3) j zero3 ≡ zero3
-zero-at zero j = refl
-zero-at (suc n) zero = refl
-zero-at (suc n) (suc j) = zero-at n j
+-- where the source's voltages stand at place 0
+pub source-first : (rows : ℕ) (v : List Three) (source : Three) → Spare rows v → getD (set v 0 source) 0 zero3 ≡ source
+source-first rows v source s = getD-set-same v 0 source zero3 (omega (arith, s .long))
 
--- all zero, but for the source
-pub lowered-first : (branches : List Branch) (rows : ℕ) (order : List ℕ) (source : Three) (i : List Three) → Lowered branches rows order source i (set (replicate 201 zero3) 0 source) 1
-lowered-first branches rows order source i =
+-- no node is done
+pub lowered-first : (branches : List Branch) (rows : ℕ) (order : List ℕ) (source : Three) (i v : List Three) → Spare rows v →
+    Lowered branches rows order (getD (set v 0 source) 0 zero3) i (set v 0 source) 1
+lowered-first branches rows order source i v s =
     record {
-      long = refl;
+      long = length-set v 0 source ∙ s .long;
       first = refl;
       done = λ q p h. absurd (omega arith);
-      behind = λ j h. getD-set-other (replicate 201 zero3) 0 j source zero3 (λ e. omega arith) ∙ zero-at 201 j;
+      behind = λ j h. getD-set-other v 0 j source zero3 (λ e. omega arith) ∙ s .behind j h;
     }
-
-pub sized-first : (source : Three) (j : ℕ) → Within3 2000000 source → Within3 2000000 (getD (set (replicate 201 zero3) 0 source) j zero3)
-sized-first source j h =
-    same? j 0
-    (λ e. rw e h)
-    (λ ne. rw (getD-set-other (replicate 201 zero3) 0 j source zero3 ne ∙ zero-at 201 j) within3-zero)
 
 pub sized-next : (v : List Three) (m : ℕ) (y : Three) → m < length v → Within3 2000000 y → ((j : ℕ) → Within3 2000000 (getD v j zero3)) →
     (j : ℕ) → Within3 2000000 (getD (set v m y) j zero3)
@@ -87,7 +87,7 @@ module _ {branches : List Branch} {rows : ℕ} {order rank : List ℕ} (w : Read
         voltage-in f branches rows (w .linked .few) a source e i j h
 
     -- none is beyond its limit
-    pub lowered-all : (v : List Three) (k : ℕ) → Lowered branches rows order source i v k → rows < k → ((j : ℕ) → Within3 2000000 (getD v j zero3)) → DownwardIs f i (record { ok = true; at = v })
+    pub lowered-all : (v : List Three) (k : ℕ) → Lowered branches rows order source i v k → rows < k → ((j : ℕ) → Within3 2000000 (getD v j zero3)) → DownwardIs f i true v
     unfolding voltageBeyond
     lowered-all v k l h s =
         let n = voltages-length f i in
@@ -101,7 +101,7 @@ module _ {branches : List Branch} {rows : ℕ} {order rank : List ℕ} (w : Read
 
     -- the next node's is
     pub lowered-beyond : (v : List Three) (k : ℕ) (y : Three) → Lowered branches rows order source i (set v (getD order k 0) y) (suc k) → 0 < k → k ≤ rows → getD order k 0 < length v → beyond3 y ≡ true →
-        DownwardIs f i (record { ok = false; at = v })
+        DownwardIs f i false v
     unfolding voltageBeyond
     lowered-beyond v k y s p h q b =
         let m = getD order k 0 in

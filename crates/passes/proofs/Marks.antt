@@ -8,7 +8,7 @@ use lib.ListN.{getD, length, length-set, replicate, set}
 use lib.Seq.{getD-set-other, getD-set-same}
 use Rattle.equations.specs.Downward.{downward-node, downward-source}
 use Rattle.equations.specs.Equations.{at, downward, voltages, zero3}
-use Rattle.equations.specs.Sizes.{Within3, close3-within, true-close3, within3-more}
+use Rattle.equations.specs.Sizes.{Within3, close3-within, true-close3, within3-more, within3-zero}
 use Rattle.feeder.specs.Feeder.{Feeder, above}
 use Rattle.feeder.specs.declared.Branch.{Branch}
 use Rattle.feeder.specs.declared.Three.{Three}
@@ -19,7 +19,7 @@ use Rattle.passes.specs.Arrays.{branch-in, rank-most, same?, to-source, 
 use Rattle.passes.specs.Passes.{Comparable, InArrays, MarksAre, Ready, belowOffAt, differ, offAt}
 use Rattle.passes.proofs.Along.{Done, Turn, done-at, done-next, turn}
 use Rattle.passes.proofs.Lift.{more3}
-use Rattle.passes.proofs.Lower.{below, sized-first}
+use Rattle.passes.proofs.Lower.{below, sized-next}
 use Rattle.radial.specs.Radial.{parentIn}
 
 -- node j: its voltage follows from its parent's, where that is not marked, and its mark from the two
@@ -36,6 +36,11 @@ pub record MarkedTo (branches : List Branch) (order : List ℕ) (source : Three)
   pub done : Done order (Marked branches i reported tol v off) k
   pub each : (j : ℕ) → getD off j false ≡ false → Within3 2100000 (getD v j zero3)
 
+zero-at : (n j : ℕ) → getD (replicate n zero3) j zero3 ≡ zero3
+zero-at zero j = refl
+zero-at (suc n) zero = refl
+zero-at (suc n) (suc j) = zero-at n j
+
 -- no mark, and zero but for the source
 pub marked-first : (branches : List Branch) (order : List ℕ) (source : Three) (i reported : List Three) (tol : ℕ) → Within3 2000000 source →
     MarkedTo branches order source i reported tol (set (replicate 201 zero3) 0 source) (replicate 201 false) 1
@@ -46,7 +51,7 @@ marked-first branches order source i reported tol h =
       first = refl;
       first-off = refl;
       done = λ q p l. absurd (omega arith);
-      each = λ j e. within3-more (sized-first source j h) tt;
+      each = λ j e. within3-more (sized-next (replicate 201 zero3) 0 source (omega arith) h (λ k. rw (zero-at 201 k) within3-zero) j) tt;
     }
 
 differ-none : (tol : ℕ) (x : Three) → differ tol x x ≡ false

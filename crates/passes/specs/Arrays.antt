@@ -9,7 +9,6 @@ use lib.ListN.{getD, length}
 use lib.Seq.{ext-getD}
 use Rattle.equations.specs.Downward.{downward-node}
 use Rattle.equations.specs.Equations.{downward, farVoltage, voltages, zero3}
-use Rattle.equations.specs.Limits.{DeviceOk}
 use Rattle.feeder.specs.Feeder.{Feeder, above, branchAt, noBranch, rowCount, rowsOf}
 use Rattle.feeder.specs.FeederLaws.{Reached}
 use Rattle.feeder.specs.Network.{Held, kept}
@@ -20,9 +19,8 @@ use Rattle.feeder.specs.declared.Three.{Three}
 use Rattle.integers.specs.ListLaws.{All, all-count, getD-tab, length-tab}
 use Rattle.integers.specs.Lists.{any, count, tab}
 use Rattle.passes.specs.Passes.{InArrays, Ready}
-use Rattle.radial.specs.Radial.{InOrder, Whole, parentIn}
+use Rattle.radial.specs.Radial.{parentIn}
 use Rattle.radial.specs.Reach.{rank-short, reached}
-use Rattle.radial.specs.declared.Order.{Order}
 
 -- two numbers are equal or not
 pub same? : {X : Type 0} (a b : ℕ) → (a ≡ b → X) → ((a ≡ b → ⊥) → X) → X
@@ -65,13 +63,9 @@ no-row f n h = go 1 n (λ k p q. h k (omega arith) (omega arith))
     go a zero w = refl
     go a (suc m) w = rw (w a (omega arith) (omega arith)) (go (a + 1) m (λ k p q. w k (omega arith) (omega arith)))
 
--- a network's arrays, and an order of every node
+-- a network's arrays
 pub held-in : {f : Feeder} {g : Network} → Held f g → InArrays f (g .branches) (g .rows)
 held-in h = record { branches-are = h .branches; rows-are = h .rows }
-
-pub order-ready : (branches : List Branch) (rows : ℕ) (o : Order) → InOrder branches rows o → Whole rows o →
-    ((k : ℕ) → 0 < k → k < rows + 1 → DeviceOk (getD branches k noBranch .device)) → Ready branches rows (o .order) (o .rank)
-order-ready branches rows o w a f = record { linked = w .placed .linked; ordered = rw (a .full) at (w .placed .ordered); ranked = a .ranked; fine = f }
 
 module _ {branches : List Branch} {rows : ℕ} {order rank : List ℕ} (w : Ready branches rows order rank) where
   pub rank-most : (k : ℕ) → getD rank k 0 ≤ rows + 1

@@ -15,8 +15,7 @@ use Rattle.feeder.specs.declared.Three.{Three}
 use Rattle.integers.specs.Lists.{all, count, tab}
 use Rattle.integers.specs.Pairs.{0c, close}
 use Rattle.integers.specs.PairLaws.{Within}
-use Rattle.passes.specs.declared.Losses.{Losses}
-use Rattle.passes.specs.declared.Pass.{Pass}
+use Rattle.integers.specs.declared.Pair.{Pair}
 use Rattle.radial.specs.Radial.{Linked, Ordered, parentIn}
 
 -- arrays that a pass goes over: every from-node is a node, the order lists every node, each behind the one that feeds it, and each row's numbers are in 01's limits
@@ -37,18 +36,18 @@ pub record Sized (m : ℕ) (l : List Three) : Type 0 where
   pub each : (k : ℕ) → Within3 m (getD l k zero3)
 
 -- 33, else the voltages worked downward from the source with the currents i
-pub record DownwardIs (f : Feeder) (i : List Three) (r : Pass) : Type 0 where
-  pub ok-is : r .ok ≡ not (voltageBeyond f (voltages f i))
-  pub at-is : r .ok ≡ true → r .at ≡ kept zero3 201 (voltages f i)
+pub record DownwardIs (f : Feeder) (i : List Three) (ok : Bool) (at : List Three) : Type 0 where
+  pub ok-is : ok ≡ not (voltageBeyond f (voltages f i))
+  pub at-is : ok ≡ true → at ≡ kept zero3 201 (voltages f i)
 
 -- the currents worked upward, where `own` is taken at each node: with load currents there, `currents`
 abbrev pub upwards : Feeder → (ℕ → Three) → List Three
 upwards f own = tab (upward f own (rowCount f)) 0 (suc (rowCount f))
 
 -- 32, else these currents
-pub record UpwardIs (f : Feeder) (own : ℕ → Three) (r : Pass) : Type 0 where
-  pub ok-is : r .ok ≡ not (currentBeyond f (upwards f own))
-  pub at-is : r .ok ≡ true → r .at ≡ kept zero3 201 (upwards f own)
+pub record UpwardIs (f : Feeder) (own : ℕ → Three) (ok : Bool) (at : List Three) : Type 0 where
+  pub ok-is : ok ≡ not (currentBeyond f (upwards f own))
+  pub at-is : ok ≡ true → at ≡ kept zero3 201 (upwards f own)
 
 -- ---- 54
 -- reported voltages that a comparison is made with, the source's own at the source
@@ -82,11 +81,11 @@ firstMarked branches rows off = firstRow (λ (j k : ℕ). getD off k false && no
 
 -- ---- losses
 -- each row's, row k at place k, and their sum
-pub record LossesAre (f : Feeder) (i : List Three) (r : Losses) : Type 0 where
-  pub each-is : r .each ≡ kept 0c 201 (0c ∷ map (lossOf f i) (rowsOf f))
-  pub sum-is : r .sum ≡ lostPower f i
+pub record LossesAre (f : Feeder) (i : List Three) (each : List Pair) (sum : Pair) : Type 0 where
+  pub each-is : each ≡ kept 0c 201 (0c ∷ map (lossOf f i) (rowsOf f))
+  pub sum-is : sum ≡ lostPower f i
 
-pub record SmallLosses (r : Losses) : Type 0 where
-  pub long : length (r .each) ≡ 201
-  pub each-small : (k : ℕ) → Within 1440000000000000 (getD (r .each) k 0c)
-  pub sum-small : Within 288000000000000000 (r .sum)
+pub record SmallLosses (each : List Pair) (sum : Pair) : Type 0 where
+  pub long : length each ≡ 201
+  pub each-small : (k : ℕ) → Within 1440000000000000 (getD each k 0c)
+  pub sum-small : Within 288000000000000000 sum

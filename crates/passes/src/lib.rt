@@ -3,7 +3,8 @@
 ghost use mathlib.Core.Bool.{false, true};
 ghost use mathlib.Core.Path.{_≡_};
 ghost use Prim.Native.Nat.{ℕ, _+_, _<_, _≤_};
-ghost use lib.ListN.{getD};
+ghost use lib.ListN.{getD, length, replicate};
+ghost use Rattle.arrays.specs.Arrays.{Spare, branchesOf, noNumbers, pairsOf, threesOf};
 ghost use Rattle.feeder.specs.Feeder.{Feeder, noBranch};
 ghost use Rattle.equations.specs.Equations.{voltages, zero3};
 ghost use Rattle.equations.specs.Limits.{DeviceOk};
@@ -11,135 +12,125 @@ ghost use Rattle.equations.specs.Sizes.{Within3};
 ghost use Rattle.passes.specs.Passes.{Comparable, DownwardIs, InArrays, LossesAre, MarksAre, Ready, Sized, SmallLosses, UpwardIs, firstMarked, firstOff};
 ghost use Rattle.radial.specs.Radial.{Linked};
 use answers::Found;
+use arrays::Branches;
+use arrays::Pairs;
+use arrays::Places;
+use arrays::Threes;
 use devices::threes;
-use feeder::Branch;
 use feeder::Three;
 use integers::Pair;
 use integers::pairs;
 
-// What a pass gives at each node, or that a value is beyond its limit.
-pub struct Pass {
-    pub ok: bool,
-    pub at: [Three; 201],
-}
-
 // V at each node from the source downward with the currents `i`, or that a V is beyond its limit: refusal 33. The ranks stand in the promise only.
+// Every node is in the order, so what `v` has at the nodes at entry is written over, and it is not cleared first.
 pub fn downward_pass(
-    branches: [Branch; 201],
+    branches: &Branches,
     rows: usize,
-    order: [usize; 201],
-    rank: [usize; 201],
+    order: &Places,
+    rank: &Places,
     source: Three,
-    i: [Three; 201],
-) -> Pass
-    requires { ⌜ Ready branches rows order rank ⌝ }
+    i: &Threes,
+    v: &mut Threes,
+) -> bool
+    requires { ⌜ Ready (branchesOf (now branches)) rows (now order) (now rank) ⌝ }
     requires { ⌜ Within3 2000000 source ⌝ }
-    requires { ⌜ ((k : ℕ) → 0 < k → k < rows + 1 → Within3 2000000 (getD i k zero3)) ⌝ }
-    ensures value { λ r. ⌜ ((f : Feeder) → InArrays f branches rows → source ≡ f .source → DownwardIs f i r) ⌝ }
-    ensures size { λ r. ⌜ Sized 2000000 (r .at) ⌝ }
+    requires { ⌜ ((k : ℕ) → 0 < k → k < rows + 1 → Within3 2000000 (getD (threesOf (now i)) k zero3)) ⌝ }
+    requires { ⌜ Spare rows (threesOf (now v)) ⌝ }
+    requires { ⌜ ((k : ℕ) → Within3 2000000 (getD (threesOf (now v)) k zero3)) ⌝ }
+    ensures value { λ r. ⌜ ((f : Feeder) → InArrays f (branchesOf (now (branches .entry))) rows → source ≡ f .source → DownwardIs f (threesOf (now (i .entry))) r (threesOf (now (v .exit)))) ⌝ }
+    ensures size { λ r. ⌜ Sized 2000000 (threesOf (now (v .exit))) ⌝ }
+    ensures spare { λ r. ⌜ Spare rows (threesOf (now (v .exit))) ⌝ }
 {
-    let zero = Pair { re: 0, im: 0 };
-    let none = Three {
-        a: zero,
-        b: zero,
-        c: zero,
-    };
-    let mut v = [none; 201];
-    v[0] = source;
+    arrays::put_three(v, 0, source);
     let mut next = 1;
     while next <= rows {
         let m = order[next];
-        let b = branches[m];
+        let b = arrays::branch_at(branches, m);
         let from = b.from;
-        let u = v[from];
-        let c = i[m];
+        let u = arrays::three_at(v, from);
+        let c = arrays::three_at(i, m);
         let y = devices::far_voltage(b, u, c);
         if threes::beyond(y) {
-            return Pass { ok: false, at: v };
+            return false;
         }
-        v[m] = y;
+        arrays::put_three(v, m, y);
         next += 1;
     }
-    Pass { ok: true, at: v }
+    true
 }
 
-// I at each node, all current taken there at the source, or that an I or a J is beyond its limit: refusal 32. `own` is taken at each node by its loads.
+// I at each node, all current taken there at the source, or that an I or a J is beyond its limit: refusal 32. At entry `at` has what is taken at each node
+// by its loads.
 pub fn upward_pass(
-    branches: [Branch; 201],
+    branches: &Branches,
     rows: usize,
-    order: [usize; 201],
-    rank: [usize; 201],
-    own: [Three; 201],
-) -> Pass
-    requires { ⌜ Ready branches rows order rank ⌝ }
-    requires { ⌜ ((k : ℕ) → Within3 600000000 (getD own k zero3)) ⌝ }
-    requires { ⌜ ((k : ℕ) → rows < k → getD own k zero3 ≡ zero3) ⌝ }
-    ensures value { λ r. ⌜ ((f : Feeder) (w : ℕ → Three) → InArrays f branches rows → ((k : ℕ) → k < rows + 1 → getD own k zero3 ≡ w k) → UpwardIs f w r) ⌝ }
-    ensures size { λ r. ⌜ Sized 1000000000 (r .at) ⌝ }
-    ensures rows { λ r. ⌜ (r .ok ≡ true → (k : ℕ) → 0 < k → k < rows + 1 → Within3 2000000 (getD (r .at) k zero3)) ⌝ }
+    order: &Places,
+    rank: &Places,
+    at: &mut Threes,
+) -> bool
+    requires { ⌜ Ready (branchesOf (now branches)) rows (now order) (now rank) ⌝ }
+    requires { ⌜ ((k : ℕ) → Within3 600000000 (getD (threesOf (now at)) k zero3)) ⌝ }
+    requires { ⌜ ((k : ℕ) → rows < k → getD (threesOf (now at)) k zero3 ≡ zero3) ⌝ }
+    requires { ⌜ length (threesOf (now at)) ≡ 201 ⌝ }
+    ensures value { λ r. ⌜ ((f : Feeder) (w : ℕ → Three) → InArrays f (branchesOf (now (branches .entry))) rows → ((k : ℕ) → k < rows + 1 → getD (threesOf (now (at .entry))) k zero3 ≡ w k) → UpwardIs f w r (threesOf (now (at .exit)))) ⌝ }
+    ensures size { λ r. ⌜ Sized 1000000000 (threesOf (now (at .exit))) ⌝ }
+    ensures rows { λ r. ⌜ (r ≡ true → (k : ℕ) → 0 < k → k < rows + 1 → Within3 2000000 (getD (threesOf (now (at .exit))) k zero3)) ⌝ }
 {
-    let mut x = own;
     let mut left = rows;
     while 0 < left {
         let m = order[left];
-        let i = x[m];
+        let i = arrays::three_at(at, m);
         if threes::beyond(i) {
-            return Pass { ok: false, at: x };
+            return false;
         }
-        let b = branches[m];
+        let b = arrays::branch_at(branches, m);
         let j = devices::near_current(b, i);
         if threes::beyond(j) {
-            return Pass { ok: false, at: x };
+            return false;
         }
         let from = b.from;
-        let t = x[from];
+        let t = arrays::three_at(at, from);
         let s = threes::plus(t, j);
-        x[from] = s;
+        arrays::put_three(at, from, s);
         left -= 1;
     }
-    Pass { ok: true, at: x }
+    true
 }
 
 // The nodes that are off, and those below them: the voltages are worked downward, each from the worked one above it, as far as none is off by more than `tol`.
 fn mark_off(
-    branches: [Branch; 201],
+    branches: &Branches,
     rows: usize,
-    order: [usize; 201],
-    rank: [usize; 201],
+    order: &Places,
+    rank: &Places,
     source: Three,
-    i: [Three; 201],
-    reported: [Three; 201],
+    i: &Threes,
+    reported: &Threes,
     tol: u64,
 ) -> [bool; 201]
-    requires { ⌜ Ready branches rows order rank ⌝ }
-    requires { ⌜ Comparable source reported tol ⌝ }
-    requires { ⌜ ((k : ℕ) → 0 < k → k < rows + 1 → Within3 2000000 (getD i k zero3)) ⌝ }
-    ensures value { λ r. ⌜ ((f : Feeder) → InArrays f branches rows → source ≡ f .source → MarksAre f branches rows i reported tol r) ⌝ }
+    requires { ⌜ Ready (branchesOf (now branches)) rows (now order) (now rank) ⌝ }
+    requires { ⌜ Comparable source (threesOf (now reported)) tol ⌝ }
+    requires { ⌜ ((k : ℕ) → 0 < k → k < rows + 1 → Within3 2000000 (getD (threesOf (now i)) k zero3)) ⌝ }
+    ensures value { λ r. ⌜ ((f : Feeder) → InArrays f (branchesOf (now (branches .entry))) rows → source ≡ f .source → MarksAre f (branchesOf (now (branches .entry))) rows (threesOf (now (i .entry))) (threesOf (now (reported .entry))) tol r) ⌝ }
     ensures source { λ r. ⌜ getD r 0 false ≡ false ⌝ }
 {
-    let zero = Pair { re: 0, im: 0 };
-    let none = Three {
-        a: zero,
-        b: zero,
-        c: zero,
-    };
-    let mut worked = [none; 201];
-    worked[0] = source;
+    let mut worked = [[0i64; 6]; 201];
+    arrays::put_three(&mut worked, 0, source);
     let mut off = [false; 201];
     let mut place = 1;
     while place <= rows {
         let m = order[place];
-        let b = branches[m];
+        let b = arrays::branch_at(branches, m);
         let from = b.from;
         if off[from] {
             off[m] = true;
         } else {
-            let u = worked[from];
-            let current = i[m];
+            let u = arrays::three_at(&worked, from);
+            let current = arrays::three_at(i, m);
             let y = devices::far_voltage(b, u, current);
-            let t = reported[m];
+            let t = arrays::three_at(reported, m);
             let near = threes::close(y, t, tol);
-            worked[m] = y;
+            arrays::put_three(&mut worked, m, y);
             off[m] = !near;
         }
         place += 1;
@@ -148,16 +139,15 @@ fn mark_off(
 }
 
 // The report's line of the first node that is marked and whose parent is not.
-fn first_marked(branches: [Branch; 201], rows: usize, off: [bool; 201]) -> Found
-    requires { ⌜ Linked branches rows ⌝ }
+fn first_marked(branches: &Branches, rows: usize, off: [bool; 201]) -> Found
+    requires { ⌜ Linked (branchesOf (now branches)) rows ⌝ }
     requires { ⌜ getD off 0 false ≡ false ⌝ }
-    ensures { λ r. ⌜ r ≡ firstMarked branches rows off ⌝ }
+    ensures { λ r. ⌜ r ≡ firstMarked (branchesOf (now (branches .entry))) rows off ⌝ }
 {
     let mut k = 1;
     while k <= rows {
         if off[k] {
-            let b = branches[k];
-            let from = b.from;
+            let from = arrays::from_at(branches, k);
             if !off[from] {
                 return Found::At(k + 2);
             }
@@ -169,53 +159,44 @@ fn first_marked(branches: [Branch; 201], rows: usize, off: [bool; 201]) -> Found
 
 // Reported voltages against worked ones, refusal 54: the report's line of the first node that is off by more than `tol` and is fed through none that is.
 pub fn compare_pass(
-    branches: [Branch; 201],
+    branches: &Branches,
     rows: usize,
-    order: [usize; 201],
-    rank: [usize; 201],
+    order: &Places,
+    rank: &Places,
     source: Three,
-    i: [Three; 201],
-    reported: [Three; 201],
+    i: &Threes,
+    reported: &Threes,
     tol: u64,
 ) -> Found
-    requires { ⌜ Ready branches rows order rank ⌝ }
-    requires { ⌜ Comparable source reported tol ⌝ }
-    requires { ⌜ ((k : ℕ) → 0 < k → k < rows + 1 → Within3 2000000 (getD i k zero3)) ⌝ }
-    ensures { λ r. ⌜ ((f : Feeder) → InArrays f branches rows → source ≡ f .source → r ≡ firstOff f tol (voltages f i) reported) ⌝ }
+    requires { ⌜ Ready (branchesOf (now branches)) rows (now order) (now rank) ⌝ }
+    requires { ⌜ Comparable source (threesOf (now reported)) tol ⌝ }
+    requires { ⌜ ((k : ℕ) → 0 < k → k < rows + 1 → Within3 2000000 (getD (threesOf (now i)) k zero3)) ⌝ }
+    ensures { λ r. ⌜ ((f : Feeder) → InArrays f (branchesOf (now (branches .entry))) rows → source ≡ f .source → r ≡ firstOff f tol (voltages f (threesOf (now (i .entry)))) (threesOf (now (reported .entry)))) ⌝ }
 {
     let off = mark_off(branches, rows, order, rank, source, i, reported, tol);
     first_marked(branches, rows, off)
 }
 
-// The loss of each branch, and their sum. Place 0 of `each` is unused.
-pub struct Losses {
-    pub each: [Pair; 201],
-    pub sum: Pair,
-}
-
+// The loss of each branch, and their sum. `losses` is all zero at entry, and its place 0 is unused.
 // From the last row to the first, so that the sum is made as it is defined.
-pub fn loss_pass(branches: [Branch; 201], rows: usize, i: [Three; 201]) -> Losses
+pub fn loss_pass(branches: &Branches, rows: usize, i: &Threes, losses: &mut Pairs) -> Pair
     requires { ⌜ rows ≤ 200 ⌝ }
-    requires { ⌜ ((k : ℕ) → 0 < k → k < rows + 1 → DeviceOk (getD branches k noBranch .device)) ⌝ }
-    requires { ⌜ ((k : ℕ) → 0 < k → k < rows + 1 → Within3 2000000 (getD i k zero3)) ⌝ }
-    ensures value { λ r. ⌜ ((f : Feeder) → InArrays f branches rows → LossesAre f i r) ⌝ }
-    ensures size { λ r. ⌜ SmallLosses r ⌝ }
+    requires { ⌜ ((k : ℕ) → 0 < k → k < rows + 1 → DeviceOk (getD (branchesOf (now branches)) k noBranch .device)) ⌝ }
+    requires { ⌜ ((k : ℕ) → 0 < k → k < rows + 1 → Within3 2000000 (getD (threesOf (now i)) k zero3)) ⌝ }
+    requires { ⌜ now losses ≡ replicate 201 (noNumbers 2) ⌝ }
+    ensures value { λ r. ⌜ ((f : Feeder) → InArrays f (branchesOf (now (branches .entry))) rows → LossesAre f (threesOf (now (i .entry))) (pairsOf (now (losses .exit))) r) ⌝ }
+    ensures size { λ r. ⌜ SmallLosses (pairsOf (now (losses .exit))) r ⌝ }
 {
-    let zero = Pair { re: 0, im: 0 };
-    let mut each = [zero; 201];
-    let mut sum = zero;
+    let mut sum = Pair { re: 0, im: 0 };
     let mut row = rows;
     while 0 < row {
-        let b = branches[row];
+        let b = arrays::branch_at(branches, row);
         let d = b.device;
-        let current = i[row];
+        let current = arrays::three_at(i, row);
         let e = devices::loss(d, current);
-        each[row] = e;
+        arrays::put_pair(losses, row, e);
         sum = pairs::add(e, sum);
         row -= 1;
     }
-    Losses {
-        each: each,
-        sum: sum,
-    }
+    sum
 }

@@ -1,19 +1,17 @@
 -- The order that lists the source alone, an order that grows by one node, a pass over the rows, and the end. Assumes nothing.
 use mathlib.Core.List.{List, _∷_}
 use mathlib.Core.Path.{_≡_, refl, sym, ap, _∙_}
-use native.Mathlib.Decide.{decLt, ℕ-discrete}
+use native.Mathlib.Decide.{ℕ-discrete}
 use native.Mathlib.Numerals.{add-one}
 use native.Mathlib.Omega.{arith}
 use Prim.Native.Nat.{_+_, _<_, _≤_, suc, zero, ℕ}
 use borrow.Author.Count.{below-more}
-use lib.ListN.{List·getD-eq-default, getD, length, length-replicate, length-set, replicate, set, take}
+use lib.ListN.{getD, length, length-replicate, length-set, replicate, set, take}
 use lib.Seq.{getD-set-other, getD-set-same}
-use Rattle.feeder.specs.Feeder.{noBranch}
 use Rattle.feeder.specs.declared.Branch.{Branch}
 use Rattle.radial.specs.Counting.{all-but-source, one-fewer}
-use Rattle.radial.specs.Radial.{Closed, InOrder, Linked, Ordered, PlacedBy, Stepped, fromIn, made, parentIn, unplaced}
+use Rattle.radial.specs.Radial.{Closed, InOrder, Linked, Order, Ordered, Placed, Stepped, made, parentIn, unplaced}
 use Rattle.radial.specs.Reach.{rank-short}
-use Rattle.radial.specs.declared.Order.{Order}
 
 zero-at : (n i : ℕ) → _≡_ {A = ℕ} (getD (replicate n 0) i 0) 0
 zero-at zero i = refl
@@ -45,28 +43,15 @@ alone nodes par n p h =
     parent zero q l = omega arith
     parent (suc i) q l = let z = zero-at n i in omega arith
 
-pub start : {par : ℕ → ℕ} (bs : List Branch) (rows : ℕ) → Linked bs rows → ((k : ℕ) → par k ≡ parentIn bs k) →
-    PlacedBy par rows (made 1 (replicate 201 0) (set (replicate 201 0) 0 1))
-start {par} bs rows l e =
+pub start : {bs : List Branch} {rows : ℕ} → Linked bs rows → Placed bs rows (made 1 (replicate 201 0) (set (replicate 201 0) 0 1))
+start {bs} {rows} l =
     record {
-      few = l .few;
-      from = λ k h. rw (e k) (l .from k h);
-      ordered = alone (rows + 1) par 200 (omega arith) (omega (arith, l .few));
+      linked = l;
+      ordered = alone (rows + 1) (parentIn bs) 200 (omega arith) (omega (arith, l .few));
       counted = all-but-source rows 200 (l .few);
       order-size = refl;
       rank-size = refl;
     }
-
--- the arrays say the same past their end where they say it up to there
-pub beyond : (n : ℕ) (from : List ℕ) (bs : List Branch) → length from ≡ n → length bs ≡ n → ((i : ℕ) → i < n → fromIn from i ≡ parentIn bs i) →
-    (i : ℕ) → fromIn from i ≡ parentIn bs i
-beyond n from bs f b e i =
-    elim (decLt i n) [
-      | yes h ↦ e i h
-      | no h ↦
-          List·getD-eq-default from 0 (omega arith)
-          ∙ sym (ap (λ (x : Branch). x .from) (List·getD-eq-default bs noBranch (omega arith)))
-    ]
 
 -- two numbers are equal or not
 same? : {X : Type 0} (a b : ℕ) → (a ≡ b → X) → ((a ≡ b → ⊥) → X) → X
@@ -111,7 +96,7 @@ module _ (rows : ℕ) (par : ℕ → ℕ) (order rank : List ℕ) (k i : ℕ) (o
             rw (off-i j ne, off-i (par j) (not-i (par j) (t .0))) t);
       }
 
-module _ (par : ℕ → ℕ) (rows : ℕ) (o : Order) (i : ℕ) (p : PlacedBy par rows o) (hi : i < rows + 1) (free : getD (o .rank) i 0 ≡ 0) where
+module _ (bs : List Branch) (rows : ℕ) (o : Order) (i : ℕ) (p : Placed bs rows o) (hi : i < rows + 1) (free : getD (o .rank) i 0 ≡ 0) where
   fewer : suc (unplaced (take (rows + 1) (set (o .rank) i (suc (o .len))))) ≡ unplaced (take (rows + 1) (o .rank))
   fewer = one-fewer (rows + 1) (o .rank) i (o .len) hi (p .ordered .size) free
 
@@ -127,35 +112,34 @@ module _ (par : ℕ → ℕ) (rows : ℕ) (o : Order) (i : ℕ) (p : PlacedBy pa
       go zero e = let s = p .ordered .source in omega arith
       go (suc j) e = omega arith
 
-  place : 0 < getD (o .rank) (par i) 0 → PlacedBy par rows (made (o .len + 1) (set (o .order) (o .len) i) (set (o .rank) i (o .len + 1)))
+  place : 0 < getD (o .rank) (parentIn bs i) 0 → Placed bs rows (made (o .len + 1) (set (o .order) (o .len) i) (set (o .rank) i (o .len + 1)))
   place up =
       rw add-one
       (record {
-        few = p .few;
-        from = p .from;
-        ordered = grown rows par (o .order) (o .rank) (o .len) i (p .ordered) not-source hi free up (omega (arith, room, p .few, p .order-size));
+        linked = p .linked;
+        ordered = grown rows (parentIn bs) (o .order) (o .rank) (o .len) i (p .ordered) not-source hi free up (omega (arith, room, p .linked .few, p .order-size));
         counted = omega (arith, fewer, p .counted);
         order-size = length-set (o .order) (o .len) i ∙ p .order-size;
         rank-size = length-set (o .rank) i (suc (o .len)) ∙ p .rank-size;
       })
 
-  pub step-placed : (getD (o .rank) (par i) 0 ≡ 0 → ⊥) →
-      Stepped par rows i o (made (o .len + 1) (set (o .order) (o .len) i) (set (o .rank) i (o .len + 1)))
+  pub step-placed : (getD (o .rank) (parentIn bs i) 0 ≡ 0 → ⊥) →
+      Stepped bs rows i o (made (o .len + 1) (set (o .order) (o .len) i) (set (o .rank) i (o .len + 1)))
   step-placed up =
       record { placed = place (omega arith); more = omega arith; kept = λ e. absurd (omega arith); closed = λ e. absurd (omega arith) }
 
 -- a node that has a place, or whose parent has none, is left
-pub step-left : (par : ℕ → ℕ) (rows : ℕ) (o : Order) (i : ℕ) → PlacedBy par rows o → (getD (o .rank) i 0 ≡ 0 → getD (o .rank) (par i) 0 ≡ 0) → Stepped par rows i o o
-step-left par rows o i p none = record { placed = p; more = omega arith; kept = λ e. refl; closed = λ e. none }
+pub step-left : (bs : List Branch) (rows : ℕ) (o : Order) (i : ℕ) → Placed bs rows o → (getD (o .rank) i 0 ≡ 0 → getD (o .rank) (parentIn bs i) 0 ≡ 0) → Stepped bs rows i o o
+step-left bs rows o i p none = record { placed = p; more = omega arith; kept = λ e. refl; closed = λ e. none }
 
 -- a pass that began with `len` nodes and is at row i: while it has placed none, no row passed was to be placed
-pub record Upto (par : ℕ → ℕ) (rows len i : ℕ) (o : Order) : Type 0 where
-  pub placed : PlacedBy par rows o
+pub record Upto (bs : List Branch) (rows len i : ℕ) (o : Order) : Type 0 where
+  pub placed : Placed bs rows o
   pub more : len ≤ o .len
-  pub closed : o .len ≡ len → (k : ℕ) → k < i → 0 < k → getD (o .rank) k 0 ≡ 0 → getD (o .rank) (par k) 0 ≡ 0
+  pub closed : o .len ≡ len → (k : ℕ) → k < i → 0 < k → getD (o .rank) k 0 ≡ 0 → getD (o .rank) (parentIn bs k) 0 ≡ 0
 
-pub row-passed : (par : ℕ → ℕ) (rows len i : ℕ) (o r : Order) → Upto par rows len i o → Stepped par rows i o r → Upto par rows len (i + 1) r
-row-passed par rows len i o r u s =
+pub row-passed : (bs : List Branch) (rows len i : ℕ) (o r : Order) → Upto bs rows len i o → Stepped bs rows i o r → Upto bs rows len (i + 1) r
+row-passed bs rows len i o r u s =
     record {
       placed = s .placed;
       more = omega (arith, u .more, s .more);
@@ -165,27 +149,8 @@ row-passed par rows len i o r u s =
     }
 
 -- where all are placed, none is to be placed
-pub full : {par : ℕ → ℕ} {rows : ℕ} {o : Order} → PlacedBy par rows o → rows < o .len → Closed (rows + 1) par (o .rank)
-full {par} {rows} {o} p h i l q z = absurd (omega (arith, room par rows o i p l z))
+pub full : {bs : List Branch} {rows : ℕ} {o : Order} → Placed bs rows o → rows < o .len → Closed (rows + 1) (parentIn bs) (o .rank)
+full {bs} {rows} {o} p h i l q z = absurd (omega (arith, room bs rows o i p l z))
 
--- an order of the branches whose from-nodes `par` gives
-pub finished : {par : ℕ → ℕ} {bs : List Branch} {rows : ℕ} {o : Order} → ((k : ℕ) → par k ≡ parentIn bs k) → PlacedBy par rows o →
-    Closed (rows + 1) par (o .rank) → InOrder bs rows o
-finished {par} {bs} {rows} {o} e p c =
-    record {
-      placed = record {
-        linked = record { few = p .few; from = λ k h. rw (← e k) (p .from k h) };
-        ordered = record {
-          size = p .ordered .size;
-          source = p .ordered .source;
-          top = p .ordered .top;
-          back = p .ordered .back;
-          parent = λ i q h. rw (← e i) (p .ordered .parent i q h);
-        };
-        counted = p .counted;
-        order-size = p .order-size;
-        rank-size = p .rank-size;
-      };
-      closed = λ i l q z. rw (← e i) (c i l q z);
-      short = omega (arith, p .counted);
-    }
+pub finished : {bs : List Branch} {rows : ℕ} {o : Order} → Placed bs rows o → Closed (rows + 1) (parentIn bs) (o .rank) → InOrder bs rows o
+finished p c = record { placed = p; closed = c; short = omega (arith, p .counted) }

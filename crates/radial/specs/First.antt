@@ -14,9 +14,8 @@ use Rattle.feeder.specs.RowLaws.{none-bad, none-found}
 use Rattle.feeder.specs.declared.Branch.{Branch}
 use Rattle.integers.specs.Lists.{count, tab}
 use Rattle.radial.specs.Counting.{all-ranked}
-use Rattle.radial.specs.Radial.{InOrder, Whole, firstLost, lost, parentIn}
+use Rattle.radial.specs.Radial.{InOrder, Order, Whole, firstLost, lost, parentIn}
 use Rattle.radial.specs.Reach.{not-reached, reached}
-use Rattle.radial.specs.declared.Order.{Order}
 
 -- such a search depends on the list's length only
 pub first-same : {X Y : Type 0} (p q : ℕ → Bool) (before k : ℕ) (l : List X) (m : List Y) → ((j : ℕ) → p j ≡ q j) → length l ≡ length m →

@@ -10,7 +10,15 @@ use Rattle.answers.specs.declared.Found.{Found}
 use Rattle.feeder.specs.Feeder.{above, firstRow, noBranch}
 use Rattle.feeder.specs.declared.Branch.{Branch}
 use Rattle.integers.specs.Lists.{count}
-use Rattle.radial.specs.declared.Order.{Order}
+
+-- `len` nodes stand in `order`, and `rank` has their places in it, counted from 1
+pub record Order : Type 0 where
+  pub len : ℕ
+  pub order : List ℕ
+  pub rank : List ℕ
+
+abbrev pub made : ℕ → List ℕ → List ℕ → Order
+made len order rank = record { len = len; order = order; rank = rank }
 
 -- the from-node of row k, where the branch of row k stands at k
 abbrev pub parentIn : List Branch → ℕ → ℕ
@@ -48,34 +56,18 @@ pub record Placed (bs : List Branch) (rows : ℕ) (o : Order) : Type 0 where
   pub order-size : length (o .order) ≡ 201
   pub rank-size : length (o .rank) ≡ 201
 
--- the from-node of node k in a list of them, and the order that three values make
-abbrev pub fromIn : List ℕ → ℕ → ℕ
-fromIn from k = getD from k 0
-
-abbrev pub made : ℕ → List ℕ → List ℕ → Order
-made len order rank = record { len = len; order = order; rank = rank }
-
--- `Placed` where the from-nodes are given without the branches
-pub record PlacedBy (par : ℕ → ℕ) (rows : ℕ) (o : Order) : Type 0 where
-  pub few : rows ≤ 200
-  pub from : (k : ℕ) → k < rows + 1 → par k < rows + 1
-  pub ordered : Ordered (rows + 1) par (o .order) (o .rank) (o .len)
-  pub counted : o .len + unplaced (take (rows + 1) (o .rank)) ≡ rows + 1
-  pub order-size : length (o .order) ≡ 201
-  pub rank-size : length (o .rank) ≡ 201
-
 -- what a step at node k makes of an order: where it does not place k, k is not to be placed, and the ranks are as they were
-pub record Stepped (par : ℕ → ℕ) (rows k : ℕ) (o r : Order) : Type 0 where
-  pub placed : PlacedBy par rows r
+pub record Stepped (bs : List Branch) (rows k : ℕ) (o r : Order) : Type 0 where
+  pub placed : Placed bs rows r
   pub more : o .len ≤ r .len
   pub kept : r .len ≡ o .len → r .rank ≡ o .rank
-  pub closed : r .len ≡ o .len → getD (o .rank) k 0 ≡ 0 → getD (o .rank) (par k) 0 ≡ 0
+  pub closed : r .len ≡ o .len → getD (o .rank) k 0 ≡ 0 → getD (o .rank) (parentIn bs k) 0 ≡ 0
 
 -- what a pass over the rows makes of an order: where it places none, there is none to place
-pub record Passed (par : ℕ → ℕ) (rows : ℕ) (o r : Order) : Type 0 where
-  pub placed : PlacedBy par rows r
+pub record Passed (bs : List Branch) (rows : ℕ) (o r : Order) : Type 0 where
+  pub placed : Placed bs rows r
   pub more : o .len ≤ r .len
-  pub closed : r .len ≡ o .len → Closed (rows + 1) par (r .rank)
+  pub closed : r .len ≡ o .len → Closed (rows + 1) (parentIn bs) (r .rank)
 
 -- the order of a feeder's nodes: all that the source reaches
 pub record InOrder (bs : List Branch) (rows : ℕ) (o : Order) : Type 0 where

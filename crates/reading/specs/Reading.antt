@@ -1,25 +1,26 @@
 -- What the reading of a feeder file answers, by cases of the definition's outcome. Assumes nothing.
 use mathlib.Core.List.{List}
-use mathlib.Core.Path.{_≡_}
+use mathlib.Core.Path.{_∙_, _≡_, sym}
 use Prim.Native.Nat.{_+_, _<_, ℕ}
-use lib.IntN.{ℤ}
+use lib.IntN.{natAbs, ℤ}
 use lib.ListN.{getD, length}
 use Rattle.answers.specs.Answers.{Outcome, good, refused}
 use Rattle.answers.specs.declared.Refusal.{Refusal}
-use Rattle.feeder.specs.Feeder.{Feeder}
-use Rattle.feeder.specs.Layout.{Rows, rows}
-use Rattle.feeder.specs.Network.{Held, kept, noBranchRow, noLoadRow}
-use Rattle.feeder.specs.RowLaws.{held}
-use Rattle.feeder.specs.declared.BranchRow.{BranchRow}
-use Rattle.feeder.specs.declared.LoadRow.{LoadRow}
+use Rattle.arrays.specs.Arrays.{branchRows, fromNames, loadNames, loadRows, numberedBranches, numberedLoads}
+use Rattle.arrays.specs.declared.Settings.{Settings}
+use Rattle.feeder.specs.Feeder.{Feeder, noBranch, nodesOf, threeAt}
+use Rattle.feeder.specs.Layout.{Rows}
+use Rattle.feeder.specs.Network.{Held, kept, noLoad}
+use Rattle.feeder.specs.declared.Branch.{Branch}
+use Rattle.feeder.specs.declared.Load.{Load}
 use Rattle.feeder.specs.declared.Network.{Network}
-use Rattle.integers.specs.Lists.{count}
-use Rattle.integers.specs.Machine.{read}
+use Rattle.names.specs.Numbered.{nodesIn}
 use Rattle.radial.specs.Radial.{Linked, Ordered, parentIn}
+use Rattle.reading.specs.declared.Read.{Read}
+use Rattle.reading.specs.declared.ReadAnswer.{ReadAnswer}
 use Rattle.reading.specs.declared.ReadAnswer.the-variants.{Good, Refused}
 use Rattle.reading.specs.declared.Reading.{Reading}
-use Rattle.text.specs.Lines.{numbers}
-use Rattle.text.specs.Text.{name}
+use Rattle.text.specs.Lines.{nth}
 
 -- all nodes stand in `order`, each after the one that feeds it, and `rank` has their places
 pub record Arranged (g : Network) : Type 0 where
@@ -30,30 +31,82 @@ pub record Arranged (g : Network) : Type 0 where
   pub rank-size : length (g .rank) ≡ 201
 
 -- a feeder that is read stands in the network, in an order of work; else the one refusal is the answer
+abbrev pub AnsweredBy : Outcome Feeder → ReadAnswer → Network → Type 0
+AnsweredBy (good f) answer g = (answer ≡ Good) × Held f g × Arranged g
+AnsweredBy (refused x) answer g = answer ≡ Refused x
+
 abbrev pub Answered : Outcome Feeder → Reading → Type 0
-Answered (good f) r = (r .answer ≡ Good) × Held f (r .network) × Arranged (r .network)
-Answered (refused x) r = r .answer ≡ Refused x
+Answered o r = AnsweredBy o (r .answer) (r .network)
 
 pub record ReadAs (o : Outcome Feeder) (r : Reading) : Type 0 where
   pub answered : Answered o r
 
--- the rows of a file in the arrays of the tables' readers
-pub record RowsIn (r : Rows) (numbers : List ℤ) (rows : List BranchRow) (count : ℕ) (cells : List LoadRow) (total : ℕ) : Type 0 where
-  pub given : numbers ≡ r .given
-  pub branches : rows ≡ kept noBranchRow 200 (r .branches)
-  pub counted : count ≡ length (r .branches)
-  pub loads : cells ≡ kept noLoadRow 300 (r .loads)
-  pub totalled : total ≡ length (r .loads)
+-- the same where the network stands in arrays
+abbrev pub AnsweredInto : Outcome Feeder → Read → Network → Type 0
+AnsweredInto o r g = AnsweredBy o (r .answer) g
+
+pub record ReadInto (o : Outcome Feeder) (r : Read) (g : Network) : Type 0 where
+  pub answered : AnsweredInto o r g
+
+-- a network with these records in the place of its own
+abbrev pub withRecords : Network → List Branch → List Load → Network
+withRecords g bs ls = record {
+  source = g .source;
+  tol = g .tol;
+  limit = g .limit;
+  rows = g .rows;
+  nodes = g .nodes;
+  branches = bs;
+  count = g .count;
+  loads = ls;
+  order = g .order;
+  rank = g .rank;
+}
+
+-- what the source's row and the tables' lengths say
+abbrev pub settingsIn : List ℤ → ℕ → ℕ → Settings
+settingsIn given rows count = record { source = threeAt given 1; tol = natAbs (nth given 7); limit = natAbs (nth given 8); rows = rows; count = count }
+
+abbrev pub settingsOf : Rows → Settings
+settingsOf r = settingsIn (r .given) (length (r .branches)) (length (r .loads))
+
+-- the rows of a file in the arrays of the tables' reader
+pub record RowsIn (r : Rows) (settings : Settings) (from-names node-names : List ℕ) (branch-rows : List (List ℤ)) (load-names : List ℕ) (load-rows : List (List ℤ)) : Type 0 where
+  pub set : settings ≡ settingsOf r
+  pub froms : from-names ≡ fromNames (r .branches)
+  pub nodes : node-names ≡ nodesIn r
+  pub branches : branch-rows ≡ branchRows (r .branches)
+  pub names : load-names ≡ loadNames (r .loads)
+  pub loads : load-rows ≡ loadRows (r .loads)
 
 -- there are such rows
-pub record Stored (name : ℕ) (numbers : List ℤ) (rows : List BranchRow) (count : ℕ) (cells : List LoadRow) (total : ℕ) : Type 0 where
+pub record Stored (settings : Settings) (from-names node-names : List ℕ) (branch-rows : List (List ℤ)) (load-names : List ℕ) (load-rows : List (List ℤ)) : Type 0 where
   pub read : Rows
-  pub source : name ≡ read .source
-  pub held : RowsIn read numbers rows count cells total
+  pub held : RowsIn read settings from-names node-names branch-rows load-names load-rows
+
+-- the rows of a file in the arrays where their nodes have numbers
+pub record NumberedIn (r : Rows) (settings : Settings) (node-names : List ℕ) (branch-rows load-rows : List (List ℤ)) : Type 0 where
+  pub set : settings ≡ settingsOf r
+  pub nodes : node-names ≡ nodesIn r
+  pub branches : branch-rows ≡ numberedBranches (nodesOf r) (r .branches)
+  pub loads : load-rows ≡ numberedLoads (nodesOf r) (r .loads)
 
 -- the answer by an equal outcome
-pub as-same : {o p : Outcome Feeder} {r : Reading} → o ≡ p → ReadAs p r → ReadAs o r
-as-same e h = record { answered = rw e (h .answered) }
+pub into-same : {o p : Outcome Feeder} {r : Read} {g : Network} → o ≡ p → ReadInto p r g → ReadInto o r g
+into-same e h = record { answered = rw e (h .answered) }
 
-pub as-refused : {o : Outcome Feeder} {x : Refusal} (r : Reading) → o ≡ refused x → r .answer ≡ Refused x → ReadAs o r
-as-refused {o} {x} r e h = as-same {p = refused x} e (record { answered = h })
+pub into-refused : {o : Outcome Feeder} {x : Refusal} (r : Read) {g : Network} → o ≡ refused x → r .answer ≡ Refused x → ReadInto o r g
+into-refused {o} {x} r {g} e h = into-same {p = refused x} e (record { answered = h })
+
+-- the same where the network is a value, whose records are those of the arrays where these hold a feeder
+pub into-as : {o : Outcome Feeder} {r : Read} {g : Network} {bs : List Branch} {ls : List Load} → ReadInto o r g →
+    ((l : List Branch) → g .branches ≡ kept noBranch 201 l → bs ≡ kept noBranch 201 l) → ((l : List Load) → g .loads ≡ kept noLoad 300 l → ls ≡ kept noLoad 300 l) →
+    ReadAs o (record { answer = r .answer; network = withRecords g bs ls })
+into-as {o} {r} {g} {bs} {ls} h b l = record { answered = go o (h .answered) }
+  where
+    go : (o : Outcome Feeder) → AnsweredBy o (r .answer) g → AnsweredBy o (r .answer) (withRecords g bs ls)
+    go (good f) a =
+        let x : bs ≡ g .branches = b _ (a .1 .branches) ∙ sym (a .1 .branches) in
+        let y : ls ≡ g .loads = l _ (a .1 .loads) ∙ sym (a .1 .loads) in
+        rw (x, y) a
+    go (refused x) a = a

@@ -2,16 +2,17 @@
 // one before it found nothing to refuse; specs/Stages.antt has the definition in the same steps.
 use answers::Found;
 use answers::Refusal;
+use arrays::Branches;
+use arrays::LoadNames;
+use arrays::Loads;
+use arrays::Names;
+use arrays::Places;
+use arrays::Settings;
+use arrays::branch_at;
+use arrays::load_at;
 use feeder::Branch;
-use feeder::BranchRow;
-use feeder::Device;
-use feeder::LineZ;
 use feeder::Load;
-use feeder::LoadKind;
-use feeder::LoadRow;
 use feeder::Network;
-use feeder::Phase;
-use feeder::Phases;
 use feeder::Three;
 use integers::Pair;
 use integers::whole;
@@ -19,32 +20,39 @@ use limits::first_branch_out;
 use limits::first_load_out;
 use limits::first_not_zero;
 use limits::source_in;
-use names::branches_of;
 use names::faults::first_phase_absent;
 use names::faults::first_second_to;
 use names::faults::first_unknown_from;
-use names::loads_of;
-use names::nodes_of;
-use radial::Order;
+use names::number_branches;
+use names::number_loads;
+use names::slots_of;
 use radial::first_not_reached;
 use radial::order_of;
 use tables::LayoutEnd;
 use tables::read_layout;
+ghost use mathlib.Core.List.{List};
 ghost use mathlib.Core.Path.{_≡_};
-ghost use Prim.Native.Nat.{ℕ, _+_, _≤_};
-ghost use lib.ListN.{length, getD};
-ghost use Rattle.feeder.specs.Feeder.{noBranch, pairAt, threeAt, feederOf, outOfLimit, reading};
+ghost use Prim.Native.Nat.{ℕ, _≤_};
+ghost use lib.ListN.{getD, length, replicate};
+ghost use Rattle.arrays.specs.Arrays.{branchRows, branchesOf, loadRows, loadsOf, networkOf, noNumbers};
+ghost use Rattle.feeder.specs.Feeder.{noBranch, outOfLimit, pairAt, reading, threeAt};
 ghost use Rattle.feeder.specs.Layout.{Rows};
-ghost use Rattle.feeder.specs.Network.{Held};
-ghost use Rattle.names.specs.Numbered.{nodesIn, branchesIn, loadsIn};
-ghost use Rattle.radial.specs.Radial.{InOrder, Whole};
-ghost use Rattle.reading.specs.Reading.{Arranged, ReadAs, RowsIn, Stored};
-ghost use Rattle.reading.specs.Stages.{from11, from20, from22, from23};
+ghost use Rattle.feeder.specs.Network.{kept, noLoad};
+ghost use Rattle.feeder.specs.declared.Branch.{Branch};
+ghost use Rattle.feeder.specs.declared.Load.{Load};
+ghost use Rattle.reading.specs.Reading.{Arranged, NumberedIn, ReadAs, ReadInto, RowsIn, Stored, settingsIn};
+ghost use Rattle.reading.specs.Stages.{from20, from22, from23};
 
 // Whether the file is a feeder.
 pub enum ReadAnswer {
     Good,
     Refused(Refusal),
+}
+
+// The answer, and where it is good what the feeder has besides its arrays.
+pub struct Read {
+    pub answer: ReadAnswer,
+    pub settings: Settings,
 }
 
 // The answer, and the feeder where it is good.
@@ -53,60 +61,21 @@ pub struct Reading {
     pub network: Network,
 }
 
-// A network of no node but the source: what stands beside a refusal.
-fn no_network() -> Network {
+fn refuse(x: Refusal) -> Read
+    ensures { λ r. ⌜ r .answer ≡ ReadAnswer.Refused x ⌝ }
+{
     let z = Pair { re: 0, im: 0 };
-    let phases = Phases {
-        a: false,
-        b: false,
-        c: false,
-    };
-    let device = Device::Line(LineZ {
-        aa: z,
-        ab: z,
-        ac: z,
-        bb: z,
-        bc: z,
-        cc: z,
-    });
-    let branch = Branch {
-        from: 0,
-        phases,
-        device,
-    };
-    let load = Load {
-        node: 0,
-        phase: Phase::A,
-        kind: LoadKind::Power,
-        vn: 0,
-        s: z,
-    };
-    let nodes = [0u64; 201];
-    let branches = [branch; 201];
-    let loads = [load; 300];
-    let order = [0usize; 201];
-    let rank = [0usize; 201];
-    Network {
-        source: Three { a: z, b: z, c: z },
+    let source = Three { a: z, b: z, c: z };
+    let settings = Settings {
+        source,
         tol: 0,
         limit: 0,
         rows: 0,
-        nodes,
-        branches,
         count: 0,
-        loads,
-        order,
-        rank,
-    }
-}
-
-fn refuse(x: Refusal) -> Reading
-    ensures { λ r. ⌜ r .answer ≡ ReadAnswer.Refused x ⌝ }
-{
-    let network = no_network();
-    Reading {
+    };
+    Read {
         answer: ReadAnswer::Refused(x),
-        network,
+        settings,
     }
 }
 
@@ -129,181 +98,229 @@ fn source_of(given: &[i64; 8]) -> Three
     Three { a, b, c }
 }
 
-// The feeder in memory.
-fn network_of(
-    given: [i64; 8],
-    count: usize,
-    nodes: [u64; 201],
-    branches: [Branch; 201],
-    total: usize,
-    loads: [Load; 300],
-    order: Order,
-) -> Network
-    requires { ⌜ count ≤ 200 ⌝ }
-    requires { ⌜ total ≤ 300 ⌝ }
-    requires { ⌜ InOrder branches count order × Whole count order ⌝ }
-    ensures held { λ g. ⌜ ((r : Rows) → given ≡ r .given → nodes ≡ nodesIn r → branches ≡ branchesIn r → count ≡ length (r .branches) → loads ≡ loadsIn r → total ≡ length (r .loads) → Held (feederOf r) g) ⌝ }
-    ensures arranged { λ g. ⌜ Arranged g ⌝ }
+// What the source's row and the tables' lengths say.
+fn settings_of(given: &[i64; 8], rows: usize, count: usize) -> Settings
+    ensures { λ r. ⌜ r ≡ settingsIn (now (given .entry)) rows count ⌝ }
 {
-    let source = source_of(&given);
+    let source = source_of(given);
     let tol = whole::size(given[6]);
     let limit = whole::size(given[7]);
-    let places = order.order;
-    let rank = order.rank;
-    Network {
+    Settings {
         source,
         tol,
         limit: limit as usize,
-        rows: count,
-        nodes,
-        branches,
-        count: total,
-        loads,
-        order: places,
-        rank,
+        rows,
+        count,
     }
 }
 
-// 23 and 24: the loads by node numbers, and the feeder where nothing is refused.
+// 23 and 24, and the feeder where nothing is refused.
 fn read_phases(
-    given: [i64; 8],
-    rows: [BranchRow; 200],
-    count: usize,
-    loadrows: [LoadRow; 300],
-    total: usize,
-    nodes: [u64; 201],
-    branches: [Branch; 201],
-    order: Order,
-) -> Reading
-    requires { ⌜ count ≤ 200 ⌝ }
-    requires { ⌜ total ≤ 300 ⌝ }
-    requires { ⌜ ((k : ℕ) → getD branches k noBranch .from ≤ count) ⌝ }
-    requires { ⌜ InOrder branches count order × Whole count order ⌝ }
-    ensures { λ x. ⌜ ((r : Rows) → RowsIn r given rows count loadrows total → nodes ≡ nodesIn r → branches ≡ branchesIn r → ReadAs (from23 r) x) ⌝ }
+    settings: Settings,
+    nodes: &Names,
+    branches: &Branches,
+    loads: &Loads,
+    order: &Places,
+    rank: &Places,
+) -> Read
+    requires { ⌜ settings .rows ≤ 200 ⌝ }
+    requires { ⌜ settings .count ≤ 300 ⌝ }
+    requires { ⌜ ((k : ℕ) → getD (branchesOf (now branches)) k noBranch .from ≤ settings .rows) ⌝ }
+    requires { ⌜ Arranged (networkOf settings (now nodes) (now branches) (now loads) (now order) (now rank)) ⌝ }
+    ensures { λ x. ⌜ ((r : Rows) → NumberedIn r settings (now (nodes .entry)) (now (branches .entry)) (now (loads .entry)) → ReadInto (from23 r) x (networkOf (x .settings) (now (nodes .entry)) (now (branches .entry)) (now (loads .entry)) (now (order .entry)) (now (rank .entry)))) ⌝ }
 {
-    let loads = loads_of(loadrows, total, &nodes, count + 1);
-    let absent = first_phase_absent(branches, count, loads, total);
+    let absent = first_phase_absent(branches, settings.rows, loads, settings.count);
     if let Found::At(line) = absent {
         return refuse(Refusal::PhaseAbsent(line));
     }
-    let due = first_not_zero(rows, count);
+    let due = first_not_zero(branches, settings.rows);
     if let Found::At(line) = due {
         return refuse(Refusal::NotZero(line));
     }
-    let network = network_of(given, count, nodes, branches, total, loads, order);
-    Reading {
+    Read {
         answer: ReadAnswer::Good,
-        network,
+        settings,
     }
 }
 
 // 22: the order of work.
 fn read_reached(
-    given: [i64; 8],
-    rows: [BranchRow; 200],
-    count: usize,
-    loadrows: [LoadRow; 300],
-    total: usize,
-    nodes: [u64; 201],
-    branches: [Branch; 201],
-) -> Reading
-    requires { ⌜ count ≤ 200 ⌝ }
-    requires { ⌜ total ≤ 300 ⌝ }
-    requires { ⌜ ((k : ℕ) → getD branches k noBranch .from ≤ count) ⌝ }
-    ensures { λ x. ⌜ ((r : Rows) → RowsIn r given rows count loadrows total → nodes ≡ nodesIn r → branches ≡ branchesIn r → ReadAs (from22 r) x) ⌝ }
+    settings: Settings,
+    nodes: &Names,
+    branches: &Branches,
+    loads: &Loads,
+    order: &mut Places,
+    rank: &mut Places,
+) -> Read
+    requires { ⌜ settings .rows ≤ 200 ⌝ }
+    requires { ⌜ settings .count ≤ 300 ⌝ }
+    requires { ⌜ ((k : ℕ) → getD (branchesOf (now branches)) k noBranch .from ≤ settings .rows) ⌝ }
+    ensures { λ x. ⌜ ((r : Rows) → NumberedIn r settings (now (nodes .entry)) (now (branches .entry)) (now (loads .entry)) → ReadInto (from22 r) x (networkOf (x .settings) (now (nodes .entry)) (now (branches .entry)) (now (loads .entry)) (now (order .exit)) (now (rank .exit)))) ⌝ }
 {
-    let order = order_of(branches, count);
-    let lost = first_not_reached(branches, count, order);
+    let len = order_of(branches, settings.rows, order, rank);
+    let lost = first_not_reached(branches, settings.rows, len, order, rank);
     if let Found::At(line) = lost {
         return refuse(Refusal::NotReached(line));
     }
-    read_phases(given, rows, count, loadrows, total, nodes, branches, order)
+    read_phases(settings, nodes, branches, loads, order, rank)
 }
 
-// 20 and 21: the branches by node numbers.
+// 20 and 21: the branches and the loads by node numbers.
 fn read_names(
-    source: u64,
-    given: [i64; 8],
-    rows: [BranchRow; 200],
-    count: usize,
-    loadrows: [LoadRow; 300],
-    total: usize,
-) -> Reading
-    requires { ⌜ count ≤ 200 ⌝ }
-    requires { ⌜ total ≤ 300 ⌝ }
-    requires { ⌜ Stored source given rows count loadrows total ⌝ }
-    ensures { λ x. ⌜ ((r : Rows) → source ≡ r .source → RowsIn r given rows count loadrows total → ReadAs (from20 r) x) ⌝ }
+    settings: Settings,
+    froms: &Names,
+    nodes: &Names,
+    branches: &mut Branches,
+    names: &LoadNames,
+    loads: &mut Loads,
+    order: &mut Places,
+    rank: &mut Places,
+) -> Read
+    requires { ⌜ settings .rows ≤ 200 ⌝ }
+    requires { ⌜ settings .count ≤ 300 ⌝ }
+    requires { ⌜ Stored settings (now froms) (now nodes) (now branches) (now names) (now loads) ⌝ }
+    ensures { λ x. ⌜ ((r : Rows) → RowsIn r settings (now (froms .entry)) (now (nodes .entry)) (now (branches .entry)) (now (names .entry)) (now (loads .entry)) → ReadInto (from20 r) x (networkOf (x .settings) (now (nodes .entry)) (now (branches .exit)) (now (loads .exit)) (now (order .exit)) (now (rank .exit)))) ⌝ }
 {
-    let nodes = nodes_of(source, rows, count);
-    let branches = branches_of(rows, count, &nodes);
-    let unknown = first_unknown_from(branches, count);
+    let rows = settings.rows;
+    let slots = slots_of(nodes, rows + 1);
+    number_branches(froms, rows, nodes, &slots, branches);
+    number_loads(names, settings.count, nodes, rows + 1, &slots, loads);
+    let unknown = first_unknown_from(branches, rows);
     if let Found::At(line) = unknown {
         return refuse(Refusal::UnknownFrom(line));
     }
-    let second = first_second_to(&nodes, count);
+    let second = first_second_to(nodes, rows, &slots);
     if let Found::At(line) = second {
         return refuse(Refusal::SecondTo(line));
     }
-    read_reached(given, rows, count, loadrows, total, nodes, branches)
+    read_reached(settings, nodes, branches, loads, order, rank)
 }
 
 // 11 of the source's row, of the branches, of the loads.
 fn first_out(
     given: [i64; 8],
-    rows: [BranchRow; 200],
+    branches: &Branches,
+    rows: usize,
+    loads: &Loads,
     count: usize,
-    loadrows: [LoadRow; 300],
-    total: usize,
 ) -> Found
+    requires { ⌜ rows ≤ 65536 ⌝ }
     requires { ⌜ count ≤ 65536 ⌝ }
-    requires { ⌜ total ≤ 65536 ⌝ }
-    ensures { λ x. ⌜ ((r : Rows) → RowsIn r given rows count loadrows total → x ≡ outOfLimit r) ⌝ }
+    ensures { λ x. ⌜ ((r : Rows) → given ≡ r .given → now (branches .entry) ≡ branchRows (r .branches) → rows ≡ length (r .branches) → now (loads .entry) ≡ loadRows (r .loads) → count ≡ length (r .loads) → x ≡ outOfLimit r) ⌝ }
 {
     if !source_in(given) {
         return Found::At(2);
     }
-    let found = first_branch_out(rows, count);
+    let found = first_branch_out(branches, rows);
     if let Found::At(line) = found {
         return Found::At(line);
     }
-    first_load_out(loadrows, total, count + 6)
+    first_load_out(loads, count, rows + 6)
 }
 
-// 11, and what follows where nothing is out of its limit: then the arrays hold all rows.
-fn read_limits(
-    source: u64,
-    given: [i64; 8],
-    rows: [BranchRow; 200],
-    count: usize,
-    loadrows: [LoadRow; 300],
-    total: usize,
-) -> Reading
-    requires { ⌜ count ≤ 65536 ⌝ }
-    requires { ⌜ total ≤ 65536 ⌝ }
-    requires { ⌜ Stored source given rows count loadrows total ⌝ }
-    ensures { λ x. ⌜ ((r : Rows) → source ≡ r .source → RowsIn r given rows count loadrows total → ReadAs (from11 r) x) ⌝ }
-{
-    let out = first_out(given, rows, count, loadrows, total);
-    if let Found::At(line) = out {
-        return refuse(Refusal::OutOfLimit(line));
-    }
-    read_names(source, given, rows, count, loadrows, total)
-}
-
-// The feeder that a file holds, or the refusal that is the lowest of those that apply anywhere in it.
-pub fn read_feeder(file: &[u8]) -> Reading
-    ensures { λ x. ⌜ ReadAs (reading (now (file .entry))) x ⌝ }
+// The feeder that a file holds into the arrays, or the refusal that is the lowest of those that apply anywhere in the file.
+pub fn read_into(
+    file: &[u8],
+    nodes: &mut Names,
+    branches: &mut Branches,
+    loads: &mut Loads,
+    order: &mut Places,
+    rank: &mut Places,
+) -> Read
+    requires { ⌜ now nodes ≡ replicate 201 0 ⌝ }
+    requires { ⌜ now branches ≡ replicate 201 (noNumbers 17) ⌝ }
+    requires { ⌜ now loads ≡ replicate 300 (noNumbers 6) ⌝ }
+    ensures { λ x. ⌜ ReadInto (reading (now (file .entry))) x (networkOf (x .settings) (now (nodes .exit)) (now (branches .exit)) (now (loads .exit)) (now (order .exit)) (now (rank .exit))) ⌝ }
 {
     if 65536 < file.len() {
         return refuse(Refusal::TooLong);
     }
-    let t = read_layout(file);
+    let mut froms = [0u64; 201];
+    let mut names = [0u64; 300];
+    let t = read_layout(file, &mut froms, nodes, branches, &mut names, loads);
     let end = t.end;
     if let LayoutEnd::Bad(line) = end {
         return refuse(Refusal::Layout(line));
     }
     let given = t.given;
-    let rows = t.branches;
-    let loadrows = t.loads;
-    read_limits(t.source, given, rows, t.rows, loadrows, t.count)
+    let out = first_out(given, branches, t.rows, loads, t.count);
+    if let Found::At(line) = out {
+        return refuse(Refusal::OutOfLimit(line));
+    }
+    let settings = settings_of(&given, t.rows, t.count);
+    read_names(
+        settings,
+        &froms,
+        nodes,
+        branches,
+        &names,
+        loads,
+        order,
+        rank,
+    )
+}
+
+// The records of the branches, where the array holds those of a feeder.
+fn branches_of(branches: &Branches) -> [Branch; 201]
+    ensures { λ r. ⌜ ((bs : List Branch) → branchesOf (now (branches .entry)) ≡ kept noBranch 201 bs → r ≡ kept noBranch 201 bs) ⌝ }
+{
+    let first = branch_at(branches, 0);
+    let mut made = [first; 201];
+    let mut k = 0;
+    while k < 201 {
+        made[k] = branch_at(branches, k);
+        k += 1;
+    }
+    made
+}
+
+// The records of the loads, where the array holds those of a feeder.
+fn loads_of(loads: &Loads) -> [Load; 300]
+    ensures { λ r. ⌜ ((ls : List Load) → loadsOf (now (loads .entry)) ≡ kept noLoad 300 ls → r ≡ kept noLoad 300 ls) ⌝ }
+{
+    let first = load_at(loads, 0);
+    let mut made = [first; 300];
+    let mut k = 0;
+    while k < 300 {
+        made[k] = load_at(loads, k);
+        k += 1;
+    }
+    made
+}
+
+// The feeder that a file holds, as one value.
+pub fn read_feeder(file: &[u8]) -> Reading
+    ensures { λ x. ⌜ ReadAs (reading (now (file .entry))) x ⌝ }
+{
+    let mut nodes = [0u64; 201];
+    let mut rows = [[0i64; 17]; 201];
+    let mut cells = [[0i64; 6]; 300];
+    let mut order = [0usize; 201];
+    let mut rank = [0usize; 201];
+    let read = read_into(
+        file,
+        &mut nodes,
+        &mut rows,
+        &mut cells,
+        &mut order,
+        &mut rank,
+    );
+    let settings = read.settings;
+    let answer = read.answer;
+    let source = settings.source;
+    let branches = branches_of(&rows);
+    let loads = loads_of(&cells);
+    let network = Network {
+        source,
+        tol: settings.tol,
+        limit: settings.limit,
+        rows: settings.rows,
+        nodes,
+        branches,
+        count: settings.count,
+        loads,
+        order,
+        rank,
+    };
+    Reading { answer, network }
 }

@@ -5,7 +5,7 @@ use mathlib.Core.Path.{_∙_, _≡_, ap, refl, sym}
 use Prim.Native.Nat.{ℕ}
 use native.Mathlib.Omega.{arith}
 use Rattle.account.specs.Account.{PowerAccount}
-use Rattle.answers.specs.Answers.{Done, Outcome, _>>_, done, good, refuseAt, refuseIf, refused}
+use Rattle.answers.specs.Answers.{Done, Outcome, _>>=_, _>>_, done, good, refuseAt, refuseIf, refused}
 use Rattle.answers.specs.declared.Found.{Found}
 use Rattle.answers.specs.declared.Found.the-variants.{At, Nothing}
 use Rattle.answers.specs.declared.Refusal.{Refusal}
@@ -14,17 +14,17 @@ use Rattle.equations.specs.Equations.{currentBeyond, currents, loadBeyond, volt
 use Rattle.feeder.specs.Feeder.{Feeder, reading, tooLong}
 use Rattle.feeder.specs.Network.{Held}
 use Rattle.feeder.specs.declared.Three.{Three}
-use Rattle.reading.specs.Reading.{Arranged, ReadAs}
+use Rattle.feeder.specs.declared.Network.{Network}
+use Rattle.reading.specs.Reading.{Arranged, ReadInto}
 use Rattle.reading.specs.declared.ReadAnswer.the-variants.{Good, Refused}
-use Rattle.reading.specs.declared.Reading.{Reading}
+use Rattle.reading.specs.declared.Read.{Read}
 use Rattle.report.specs.Report.{Reported, reportOf, reportedVoltages}
 use Rattle.compare.specs.Differences.{currentDiffers, nameDiffers, sourceDiffers, totalDiffers}
 use Rattle.report_check.specs.Check.{checkOf, checked, compared, verdictOf, voltageOff}
 use Rattle.report_check.specs.Demand.{demand3}
 use Rattle.report_check.specs.declared.Verdict.{Verdict}
 use Rattle.report_check.specs.declared.Verdict.the-variants.{Fail, Pass}
-use Rattle.report_reader.specs.Read.{ReportHeld, ReportIs}
-use Rattle.report_reader.specs.declared.ReportRead.{ReportRead}
+use Rattle.report_reader.specs.Read.{ReportHeld, ReportIs, ReportRead}
 use Rattle.sweeps.specs.Sweeps.{workOf}
 use Rattle.sweeps.specs.declared.Work.the-variants.{CurrentBeyond as WorkOver, Fine as WorkFine, LoadBeyond as WorkLoad, ZeroVoltage as WorkZero}
 
@@ -47,6 +47,10 @@ from30 f x =
 
 unfoldable pub from52 : Feeder → Reported → Outcome Done
 from52 f x = refuseAt SourceDiffers (sourceDiffers f x) >> from30 f x
+
+-- 50, and what follows
+unfoldable pub from50 : Feeder → List ℕ → Outcome Done
+from50 f t = reportOf f t >>= λ r. compared f r
 
 pub compared-is : (f : Feeder) (x : Reported) → compared f x ≡ (refuseAt NameDiffers (nameDiffers f x) >> from52 f x)
 unfolding compared from52 from30 from53 from54 from55
@@ -91,8 +95,8 @@ is-fine false false true e = let z : _≡_ {A = ℕ} 0 1 = cc in absurd (omega a
 is-fine false false false e = (refl, (refl, refl))
 
 module _ (f : Feeder) (x : Reported) where
-  abbrev dead : Bool
-  dead = zeroVoltage f (reportedVoltages x)
+  abbrev zero : Bool
+  zero = zeroVoltage f (reportedVoltages x)
 
   abbrev large : Bool
   large = loadBeyond f (reportedVoltages x)
@@ -100,36 +104,36 @@ module _ (f : Feeder) (x : Reported) where
   abbrev over : Bool
   over = currentBeyond f (workedAt f x)
 
-  pub fails30 : WorkZero ≡ workOf dead large over → Fail (ZeroVoltage 0) ≡ verdictOf (from30 f x)
+  pub fails30 : WorkZero ≡ workOf zero large over → Fail (ZeroVoltage 0) ≡ verdictOf (from30 f x)
   unfolding from30
-  fails30 e = rw (is-zero dead large over e)
+  fails30 e = rw (is-zero zero large over e)
 
-  pub fails31 : WorkLoad ≡ workOf dead large over → Fail (LoadBeyond 0) ≡ verdictOf (from30 f x)
+  pub fails31 : WorkLoad ≡ workOf zero large over → Fail (LoadBeyond 0) ≡ verdictOf (from30 f x)
   unfolding from30
-  fails31 e = let w = is-load dead large over e in rw (w .0, w .1)
+  fails31 e = let w = is-load zero large over e in rw (w .0, w .1)
 
-  pub fails32 : WorkOver ≡ workOf dead large over → Fail (CurrentBeyond 0) ≡ verdictOf (from30 f x)
+  pub fails32 : WorkOver ≡ workOf zero large over → Fail (CurrentBeyond 0) ≡ verdictOf (from30 f x)
   unfolding from30
-  fails32 e = let w = is-over dead large over e in rw (w .0, w .1 .0, w .1 .1)
+  fails32 e = let w = is-over zero large over e in rw (w .0, w .1 .0, w .1 .1)
 
-  pub goes30 : {v : Verdict} → WorkFine ≡ workOf dead large over → v ≡ verdictOf (from53 f x) → v ≡ verdictOf (from30 f x)
+  pub goes30 : {v : Verdict} → WorkFine ≡ workOf zero large over → v ≡ verdictOf (from53 f x) → v ≡ verdictOf (from30 f x)
   unfolding from30
-  goes30 e h = let w = is-fine dead large over e in rw (w .0, w .1 .0, w .1 .1) h
+  goes30 e h = let w = is-fine zero large over e in rw (w .0, w .1 .0, w .1 .1) h
 
 -- ---- the feeder that is read, or its refusal
-pub record FeederRead (o : Outcome Feeder) (r : Reading) : Type 0 where
+pub record FeederRead (o : Outcome Feeder) (g : Network) : Type 0 where
   pub feeder : Feeder
   pub came : o ≡ good feeder
-  pub held : Held feeder (r .network)
-  pub arranged : Arranged (r .network)
+  pub held : Held feeder g
+  pub arranged : Arranged g
 
-pub feeder-read : (o : Outcome Feeder) (r : Reading) → ReadAs o r → r .answer ≡ Good → FeederRead o r
-feeder-read (good f) r h e = record { feeder = f; came = refl; held = h .answered .1; arranged = h .answered .2 }
-feeder-read (refused y) r h e = let q : Refused y ≡ Good = sym (h .answered) ∙ e in let z : _≡_ {A = ℕ} 0 1 = cc in absurd (omega arith)
+pub feeder-read : (o : Outcome Feeder) (r : Read) (g : Network) → ReadInto o r g → r .answer ≡ Good → FeederRead o g
+feeder-read (good f) r g h e = record { feeder = f; came = refl; held = h .answered .1; arranged = h .answered .2 }
+feeder-read (refused y) r g h e = let q : Refused y ≡ Good = sym (h .answered) ∙ e in let z : _≡_ {A = ℕ} 0 1 = cc in absurd (omega arith)
 
-pub feeder-refused : (o : Outcome Feeder) (r : Reading) (y : Refusal) → ReadAs o r → r .answer ≡ Refused y → o ≡ refused y
-feeder-refused (good f) r y h e = let q : Good ≡ Refused y = sym (h .answered .0) ∙ e in let z : _≡_ {A = ℕ} 0 1 = cc in absurd (omega arith)
-feeder-refused (refused w) r y h e = let q : Refused w ≡ Refused y = sym (h .answered) ∙ e in cc
+pub feeder-refused : (o : Outcome Feeder) (r : Read) (g : Network) (y : Refusal) → ReadInto o r g → r .answer ≡ Refused y → o ≡ refused y
+feeder-refused (good f) r g y h e = let q : Good ≡ Refused y = sym (h .answered .0) ∙ e in let z : _≡_ {A = ℕ} 0 1 = cc in absurd (omega arith)
+feeder-refused (refused w) r g y h e = let q : Refused w ≡ Refused y = sym (h .answered) ∙ e in cc
 
 -- ---- the report that is read, or 50
 pub record ReportFound (rows : ℕ) (o : Outcome Reported) (t : ReportRead) : Type 0 where
@@ -145,6 +149,14 @@ pub report-refused : (rows : ℕ) (o : Outcome Reported) (t : ReportRead) → Re
 report-refused rows (good x) t h e = let q : true ≡ false = sym (h .ok) ∙ e in let z : _≡_ {A = ℕ} 0 1 = cc in absurd (omega arith)
 report-refused rows (refused y) t h e = ap refused (h .layout)
 
+pub refused50 : (f : Feeder) (t : List ℕ) → reportOf f t ≡ refused ReportLayout → Fail ReportLayout ≡ verdictOf (from50 f t)
+unfolding from50
+refused50 f t e = rw e
+
+pub goes50 : {v : Verdict} (f : Feeder) (t : List ℕ) (x : Reported) → reportOf f t ≡ good x → v ≡ verdictOf (compared f x) → v ≡ verdictOf (from50 f t)
+unfolding from50
+goes50 f t x e h = rw e h
+
 -- ---- the check of the two texts by its steps
 module _ (s t : List ℕ) where
   pub check-long : tooLong t ≡ true → Fail TooLong ≡ checkOf s t
@@ -156,13 +168,9 @@ module _ (s t : List ℕ) where
     unfolding checkOf checked
     check-feeder y e = rw (short, e)
 
-    pub check-report : (f : Feeder) → reading s ≡ good f → reportOf f t ≡ refused ReportLayout → Fail ReportLayout ≡ checkOf s t
-    unfolding checkOf checked
-    check-report f e h = rw (short, e, h)
-
-    pub check-compared : {v : Verdict} (f : Feeder) (x : Reported) → reading s ≡ good f → reportOf f t ≡ good x → v ≡ verdictOf (compared f x) → v ≡ checkOf s t
-    unfolding checkOf checked
-    check-compared f x e h k = rw (short, e, h) k
+    pub check-read : {v : Verdict} (f : Feeder) → reading s ≡ good f → v ≡ verdictOf (from50 f t) → v ≡ checkOf s t
+    unfolding checkOf checked from50
+    check-read f e h = rw (short, e) h
 
 -- both of the check's promises, by the first
 pub promised : (s t : List ℕ) {v : Verdict} → v ≡ checkOf s t → (v ≡ checkOf s t) × (v ≡ Pass → PowerAccount s t)

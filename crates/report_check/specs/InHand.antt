@@ -4,6 +4,7 @@ use mathlib.Core.List.{List, _∷_, map}
 use mathlib.Core.Path.{_∙_, _≡_, ap, ap₂, sym}
 use Prim.Native.Nat.{_+_, _<_, ℕ}
 use native.Mathlib.Omega.{arith}
+use lib.IntN.{ℤ}
 use lib.ListN.{getD, length-map}
 use Rattle.answers.specs.declared.Found.{Found}
 use Rattle.answers.specs.declared.Found.the-variants.{Nothing}
@@ -18,16 +19,13 @@ use Rattle.integers.specs.Pairs.{0c}
 use Rattle.integers.specs.declared.Pair.{Pair}
 use Rattle.passes.specs.Passes.{Comparable, LossesAre, differ, firstOff}
 use Rattle.passes.specs.Same.{Same, currents-same, drawn-same, load-beyond-same, loss-same, lost-same, same-currents, same-kept, voltages-same, zero-voltage-same}
-use Rattle.passes.specs.declared.Losses.{Losses}
 use Rattle.radial.specs.Radial.{parentIn}
-use Rattle.reading.specs.declared.Reading.{Reading}
 use Rattle.report.specs.Report.{Reported, reportedVoltages}
 use Rattle.compare.specs.Differences.{sourceDiffers}
 use Rattle.report_check.specs.Check.{belowOff, off, voltageOff}
 use Rattle.report_check.specs.CheckStages.{FeederRead, workedAt}
 use Rattle.report_check.specs.Tests.{same3-true}
-use Rattle.report_reader.specs.Read.{ReportHeld}
-use Rattle.report_reader.specs.declared.ReportRead.{ReportRead}
+use Rattle.report_reader.specs.Read.{ReportHeld, ReportRead}
 use Rattle.sweeps.specs.Sweeps.{Known, WorkedIs, workOf}
 use Rattle.sweeps.specs.declared.Worked.{Worked}
 
@@ -44,6 +42,16 @@ pub record InHand (f : Feeder) (x : Reported) (g : Network) (t : ReportRead) (i 
   pub currents-are : i ≡ kept zero3 201 (workedAt f x)
   pub drawn-is : drawn ≡ drawnPower f (reportedVoltages x)
 
+-- the arrays that 55, and 53 to 55, are read off are those of t
+pub record Totalled (losses : List Pair) (totals : List ℤ) (t : ReportRead) : Type 0 where
+  pub losses-are : losses ≡ t .losses
+  pub totals-are : totals ≡ t .totals
+
+pub record Compared (voltages currents : List Three) (losses : List Pair) (totals : List ℤ) (t : ReportRead) : Type 0 where
+  pub voltages-are : voltages ≡ t .voltages
+  pub currents-are : currents ≡ t .currents
+  pub totalled : Totalled losses totals t
+
 -- ---- the voltages of a report at each place
 module _ (f : Feeder) (g : Network) (x : Reported) (t : ReportRead) (h : Held f g) (w : ReportHeld (rowCount f) x t) where
   pub voltages-held : Same (t .voltages) (reportedVoltages x)
@@ -58,8 +66,8 @@ module _ (f : Feeder) (g : Network) (x : Reported) (t : ReportRead) (h : Held f 
   source-first e = voltages-held .place 0 ∙ same3-true _ _ (held _ 2 (or-none _ _ e .0)) ∙ sym (h .source)
 
   -- what is worked at the array is worked at the report's voltages
-  pub work-held : (r : Worked) → WorkedIs f (t .voltages) r → WorkedIs f (reportedVoltages x) r
-  work-held r k = record { work-is = k .work-is ∙ (λ j. workOf (zero-voltage-same f voltages-held j) (load-beyond-same f voltages-held j) (currentBeyond f (currents-same f voltages-held j))); currents-are = λ e. k .currents-are e ∙ ap (kept zero3 201) (currents-same f voltages-held); drawn-is = λ e. k .drawn-is e ∙ drawn-same f voltages-held }
+  pub work-held : (r : Worked) (i : List Three) → WorkedIs f (t .voltages) r i → WorkedIs f (reportedVoltages x) r i
+  work-held r i k = record { work-is = k .work-is ∙ (λ j. workOf (zero-voltage-same f voltages-held j) (load-beyond-same f voltages-held j) (currentBeyond f (currents-same f voltages-held j))); currents-are = λ e. k .currents-are e ∙ ap (kept zero3 201) (currents-same f voltages-held); drawn-is = λ e. k .drawn-is e ∙ drawn-same f voltages-held }
 
 -- 54's values are in their limits
 pub comparable : (g : Network) (t : ReportRead) (m : Met g t) → sourceDiffers (m .known .feeder) (m .report) ≡ Nothing → Comparable (g .source) (t .voltages) (g .tol)
@@ -74,11 +82,11 @@ module _ (f : Feeder) (x : Reported) (g : Network) (t : ReportRead) (i : List Th
   pub currents-held : Same i (workedAt f x)
   currents-held = record { place = λ k. ap (λ (l : List Three). getD l k zero3) (h .currents-are) ∙ same-currents f (reportedVoltages x) (h .held .few-rows) .place k }
 
-  pub losses-held : (r : Losses) → LossesAre f i r → r .each ≡ kept 0c 201 (0c ∷ map (lossOf f (workedAt f x)) (rowsOf f))
-  losses-held r k = k .each-is ∙ (λ j. kept 0c 201 (0c ∷ map (λ m. loss-same f currents-held m j) (rowsOf f)))
+  pub losses-held : (each : List Pair) (sum : Pair) → LossesAre f i each sum → each ≡ kept 0c 201 (0c ∷ map (lossOf f (workedAt f x)) (rowsOf f))
+  losses-held each sum k = k .each-is ∙ (λ j. kept 0c 201 (0c ∷ map (λ m. loss-same f currents-held m j) (rowsOf f)))
 
-  pub lost-held : (r : Losses) → LossesAre f i r → r .sum ≡ lostPower f (workedAt f x)
-  lost-held r k = k .sum-is ∙ lost-same f currents-held
+  pub lost-held : (each : List Pair) (sum : Pair) → LossesAre f i each sum → sum ≡ lostPower f (workedAt f x)
+  lost-held each sum k = k .sum-is ∙ lost-same f currents-held
 
   pub sent-held : (p : Pair) → p ≡ power (g .source) (getD i 0 zero3) → p ≡ sourcePower f (workedAt f x)
   unfolding sourcePower
@@ -98,8 +106,5 @@ pub parents-in : {g : Network} → Known g → (k : ℕ) → k < g .rows + 1 →
 parents-in k i q = omega (arith, k .arranged .linked .from i q, k .arranged .linked .few)
 
 -- a feeder that is read
-abbrev pub known-read : (s : List ℕ) (r : Reading) → FeederRead (reading s) r → Known (r .network)
-known-read s r w = record { feeder = w .feeder; held = w .held; fit = fit s (w .feeder) (w .came); arranged = w .arranged }
-
-pub met-read : (s : List ℕ) (r : Reading) (w : FeederRead (reading s) r) (x : Reported) (t : ReportRead) → ReportHeld (rowCount (w .feeder)) x t → Met (r .network) t
-met-read s r w x t h = record { known = known-read s r w; report = x; read = h }
+abbrev pub known-read : (s : List ℕ) (g : Network) → FeederRead (reading s) g → Known g
+known-read s g w = record { feeder = w .feeder; held = w .held; fit = fit s (w .feeder) (w .came); arranged = w .arranged }

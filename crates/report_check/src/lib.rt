@@ -2,11 +2,10 @@
 ghost use mathlib.Core.Path.{_≡_};
 ghost use Rattle.account.specs.Account.{PowerAccount};
 ghost use Rattle.report_check.specs.Check.{checkOf};
-use crate::stages::check_report;
+use crate::stages::check_text;
 use answers::Refusal;
 use reading::ReadAnswer;
-use reading::read_feeder;
-use report_reader::read_report;
+use reading::read_into;
 
 pub mod stages;
 
@@ -23,15 +22,23 @@ pub fn check(feeder: &[u8], report: &[u8]) -> Verdict
     if 65536 < report.len() {
         return Verdict::Fail(Refusal::TooLong);
     }
-    let f = read_feeder(feeder);
+    let mut nodes = [0u64; 201];
+    let mut branches = [[0i64; 17]; 201];
+    let mut loads = [[0i64; 6]; 300];
+    let mut order = [0usize; 201];
+    let mut rank = [0usize; 201];
+    let f = read_into(
+        feeder,
+        &mut nodes,
+        &mut branches,
+        &mut loads,
+        &mut order,
+        &mut rank,
+    );
     let answer = f.answer;
     if let ReadAnswer::Refused(x) = answer {
         return Verdict::Fail(x);
     }
-    let g = f.network;
-    let t = read_report(report, g.rows, g.limit);
-    if !t.ok {
-        return Verdict::Fail(Refusal::ReportLayout);
-    }
-    check_report(g, t)
+    let settings = f.settings;
+    check_text(settings, &nodes, &branches, &loads, &order, &rank, report)
 }

@@ -6,6 +6,7 @@ use Prim.Native.Nat.{_+_, _≤_, suc, ℕ}
 use Prim.Native.String.{String}
 use lib.IntN.{pos, ℤ}
 use lib.ListN.{getD, length, replicate, take}
+use Rattle.arrays.specs.Arrays.{pairsOf, threesOf}
 use Rattle.answers.specs.Answers.{Outcome, good, refused}
 use Rattle.answers.specs.declared.Refusal.the-variants.{ReportLayout}
 use Rattle.answers.specs.declared.Refusal.{Refusal}
@@ -20,7 +21,6 @@ use Rattle.feeder.specs.declared.Three.{Three}
 use Rattle.equations.specs.Equations.{zero3}
 use Rattle.equations.specs.Sizes.{Within3}
 use Rattle.report.specs.Report.{Reported, reportedCurrents, reportedLosses, reportedVoltages, tableOf}
-use Rattle.report_reader.specs.declared.ReportRead.{ReportRead}
 use Rattle.report_reader.specs.declared.fields.RowRead.{RowRead}
 use Rattle.report_reader.specs.declared.rows.Table.{Table}
 use Rattle.report_reader.specs.declared.totals.Totals.{Totals}
@@ -68,26 +68,40 @@ pub record RowHeld (branch : Bool) (s : List ℕ) (at : ℕ) (r : RowRead) : Typ
   pub pair : r .pair ≡ pairAt (read .values) 7
   pub inside : r .inside ≡ rowInside branch read
   pub within : r .next ≤ length s
+  pub blank : branch ≡ false → (r .second ≡ 0) × (r .pair ≡ 0c)
 
 abbrev pub RowIs : Bool → List ℕ → ℕ → RowRead → Type 0
 RowIs branch s at r = Answer (rowAt branch s at) (r .ok) (RowHeld branch s at r)
 
--- ---- a table
-pub record Empty (at : ℕ) (t : Table) : Type 0 where
-  pub ok : t .ok ≡ true
-  pub next : t .next ≡ at
-  pub first : t .first ≡ replicate 201 0
-  pub second : t .second ≡ replicate 201 0
-  pub threes : t .threes ≡ replicate 201 zero3
-  pub pairs : t .pairs ≡ replicate 201 0c
-  pub inside : t .inside ≡ true
+-- ---- a table, and the arrays that its rows are stored in
+pub record TableRead : Type 0 where
+  pub ok : Bool
+  pub next : ℕ
+  pub first : List ℕ
+  pub second : List ℕ
+  pub threes : List Three
+  pub pairs : List Pair
+  pub inside : Bool
+
+abbrev pub tableRead : Table → List ℕ → List ℕ → List (List ℤ) → List (List ℤ) → TableRead
+tableRead t first second threes pairs = record { ok = t .ok; next = t .next; first = first; second = second; threes = threesOf threes; pairs = pairsOf pairs; inside = t .inside }
+
+-- the arrays in which a node row stores nothing are as made
+abbrev pub Blank : List ℕ → List Pair → Type 0
+Blank second pairs = (second ≡ replicate 201 0) × (pairs ≡ replicate 201 0c)
+
+-- all four are as made
+pub record Empty (first second : List ℕ) (threes pairs : List (List ℤ)) : Type 0 where
+  pub first-made : first ≡ replicate 201 0
+  pub threes-made : threesOf threes ≡ replicate 201 zero3
+  pub blank : Blank second (pairsOf pairs)
 
 -- what an array holds of the rows l
 abbrev pub columnOf : {X : Type 0} → X → Bool → (Row → X) → List Row → List X
 columnOf d branch g l = kept d 201 (unused branch d ++ map g l)
 
 -- the arrays of t hold the rows l
-pub record RowsHeld (branch : Bool) (l : List Row) (t : Table) : Type 0 where
+pub record RowsHeld (branch : Bool) (l : List Row) (t : TableRead) : Type 0 where
   pub first : t .first ≡ columnOf 0 branch (λ y. wordOf y 0) l
   pub second : t .second ≡ columnOf 0 branch (λ y. wordOf y 1) l
   pub threes : t .threes ≡ columnOf zero3 branch (λ y. threeAt (y .values) 1) l
@@ -95,18 +109,19 @@ pub record RowsHeld (branch : Bool) (l : List Row) (t : Table) : Type 0 where
   pub inside : t .inside ≡ all (rowInside branch) l
 
 -- o is the table of n rows that t holds
-pub record TableHeld (branch : Bool) (n : ℕ) (s : List ℕ) (o : Outcome (Placed (List Row))) (t : Table) : Type 0 where
+pub record TableHeld (branch : Bool) (n : ℕ) (s : List ℕ) (o : Outcome (Placed (List Row))) (t : TableRead) : Type 0 where
   pub list : List Row
   pub whole : o ≡ good (list, t .next)
   pub counted : length list ≡ n
   pub held : RowsHeld branch list t
   pub within : t .next ≤ length s
+  pub blank : branch ≡ false → Blank (t .second) (t .pairs)
 
-abbrev pub TableIs : Bool → ℕ → List ℕ → Outcome (Placed (List Row)) → Table → Type 0
+abbrev pub TableIs : Bool → ℕ → List ℕ → Outcome (Placed (List Row)) → TableRead → Type 0
 TableIs branch n s o t = Answer o (t .ok) (TableHeld branch n s o t)
 
 -- a table with the line of names that these bytes are
-abbrev pub NamedTable : Bool → ℕ → List ℕ → List ℕ → Table → Type 0
+abbrev pub NamedTable : Bool → ℕ → List ℕ → List ℕ → TableRead → Type 0
 NamedTable branch count header s t = (name : String) (n : ℕ) → bytes name ≡ header → n ≡ count → TableIs branch n s (tableOf name n (nameCount branch) (valueCount branch) s) t
 
 -- ---- the last row
@@ -117,16 +132,29 @@ pub record TotalsHeld (o : Outcome Row) (t : Totals) : Type 0 where
 abbrev pub TotalsAre : Outcome Row → Totals → Type 0
 TotalsAre o t = Answer o (t .ok) (TotalsHeld o t)
 
--- ---- the report
-pub record Made (nodes branches : Table) (last : List ℤ) (r : ReportRead) : Type 0 where
-  pub ok : r .ok ≡ true
-  pub nodeNames : r .«node_names» ≡ nodes .first
-  pub voltages : r .voltages ≡ nodes .threes
-  pub fromNames : r .«from_names» ≡ branches .first
-  pub toNames : r .«to_names» ≡ branches .second
-  pub currents : r .currents ≡ branches .threes
-  pub losses : r .losses ≡ branches .pairs
-  pub totals : r .totals ≡ last
+-- ---- the report: by node number its names and voltages, and by branch row its names, currents and losses, with nothing at place 0. The totals are the last
+-- row's numbers, the first of them the sweeps
+pub record ReportRead : Type 0 where
+  pub ok : Bool
+  pub «node_names» : List ℕ
+  pub voltages : List Three
+  pub «from_names» : List ℕ
+  pub «to_names» : List ℕ
+  pub currents : List Three
+  pub losses : List Pair
+  pub totals : List ℤ
+
+abbrev pub reportRead : Bool → List ℕ → List (List ℤ) → List ℕ → List ℕ → List (List ℤ) → List (List ℤ) → List ℤ → ReportRead
+reportRead ok nodeNames voltages fromNames toNames currents losses totals = record {
+  ok = ok;
+  «node_names» = nodeNames;
+  voltages = threesOf voltages;
+  «from_names» = fromNames;
+  «to_names» = toNames;
+  currents = threesOf currents;
+  losses = pairsOf losses;
+  totals = totals;
+}
 
 -- the arrays of r hold the report x of a feeder with so many branch rows
 pub record ReportHeld (rows : ℕ) (x : Reported) (r : ReportRead) : Type 0 where

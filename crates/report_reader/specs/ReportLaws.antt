@@ -4,14 +4,15 @@ use mathlib.Core.List.{[], _++_, _∷_, List, map}
 use mathlib.Core.Path.{_∙_, _≡_, ap, refl, subst, sym}
 use Prim.Native.Nat.{_+_, _≤_, suc, zero, ℕ}
 use native.Mathlib.Omega.{arith}
-use lib.IntN.{pos}
-use lib.ListN.{drop, getD, length, length-append, length-map, take}
+use lib.IntN.{pos, ℤ}
+use lib.ListN.{drop, getD, length, length-append, length-map, replicate, take}
 use Rattle.answers.specs.Answers.{_>>_, Outcome, good, refuseIf, refused}
 use Rattle.answers.specs.declared.Refusal.the-variants.{ReportLayout}
 use Rattle.integers.specs.Bools.{both}
 use Rattle.integers.specs.ListLaws.{All, all-image, all-map, all-true}
 use Rattle.integers.specs.Lists.{all}
-use Rattle.integers.specs.Pairs.{inside}
+use Rattle.integers.specs.Pairs.{0c, inside}
+use Rattle.arrays.specs.Arrays.{noNumbers, pairOf, pairsOf, threeOf, threesOf}
 use Rattle.text.specs.Lines.{Placed, Row, nth}
 use Rattle.feeder.specs.Feeder.{Feeder, between, rowCount, threeAt}
 use Rattle.feeder.specs.NetworkLaws.{getD-kept}
@@ -19,11 +20,9 @@ use Rattle.feeder.specs.declared.Three.{Three}
 use Rattle.equations.specs.Equations.{zero3}
 use Rattle.equations.specs.Sizes.{Within3, within3-zero}
 use Rattle.report.specs.Report.{Reported, lastRow, reportOf, reportedCurrents, reportedLosses, reportedVoltages, tableOf}
-use Rattle.report_reader.specs.Read.{Made, ReportHeld, ReportIs, TableHeld, TotalsHeld, columnOf, rowInside, unused, unusedCount}
+use Rattle.report_reader.specs.Read.{ReportHeld, ReportIs, ReportRead, TableHeld, TableRead, TotalsHeld, columnOf, rowInside, unused, unusedCount}
 use Rattle.report_reader.specs.RowLaws.{row-within}
 use Rattle.report_reader.specs.TableLaws.{unused-length}
-use Rattle.report_reader.specs.declared.ReportRead.{ReportRead}
-use Rattle.report_reader.specs.declared.rows.Table.{Table}
 use Rattle.report_reader.specs.declared.totals.Totals.{Totals}
 
 abbrev pub nodeTable : ℕ → List ℕ → Outcome (Placed (List Row))
@@ -84,13 +83,13 @@ column-within branch l cells e h t k =
 
 -- ---- the answer
 -- the tests behind the reading
-abbrev pub accepts : ℕ → Table → Table → Totals → Bool
+abbrev pub accepts : ℕ → TableRead → TableRead → Totals → Bool
 accepts limit nodes branches last = nodes .inside && (branches .inside && between (pos 1) (pos limit) (nth (last .values) 1))
 
 pub not-read : (rows : ℕ) (o : Outcome Reported) (r : ReportRead) → r .ok ≡ false → o ≡ refused ReportLayout → ReportIs rows o r
 not-read rows o r h e = subst (λ (x : Outcome Reported). ReportIs rows x r) (sym e) (record { ok = h; layout = refl })
 
-module _ (f : Feeder) (s : List ℕ) (nodes branches : Table) (last : Totals)
+module _ (f : Feeder) (s : List ℕ) (nodes branches : TableRead) (last : Totals)
     (n : TableHeld false (suc (rowCount f)) s (nodeTable (suc (rowCount f)) s) nodes)
     (b : TableHeld true (rowCount f) (drop (nodes .next) s) (branchTable (rowCount f) (drop (nodes .next) s)) branches)
     (l : TotalsHeld (lastRow (drop (branches .next) (drop (nodes .next) s))) last) where
@@ -102,31 +101,53 @@ module _ (f : Feeder) (s : List ℕ) (nodes branches : Table) (last : Totals)
       tested f s (n .list) (nodes .next) (n .whole) (b .list) (branches .next) (b .whole) _ (l .whole)
       ∙ sym (λ i. cond (n .held .inside i && (b .held .inside i && between (pos 1) (pos (f .limit)) (nth (last .values) 1))) (good report) (refused ReportLayout))
 
-  pub test-fails : accepts (f .limit) nodes branches last ≡ false → reportOf f s ≡ refused ReportLayout
-  test-fails e = by-test ∙ ap (λ (t : Bool). cond t (good report) (refused ReportLayout)) e
+  -- the arrays of the two tables, and the last row's numbers
+  abbrev made : Bool → ReportRead
+  made ok = record {
+    ok = ok;
+    «node_names» = nodes .first;
+    voltages = nodes .threes;
+    «from_names» = branches .first;
+    «to_names» = branches .second;
+    currents = branches .threes;
+    losses = branches .pairs;
+    totals = last .values;
+  }
 
-  held : (r : ReportRead) → rowCount f ≤ 200 → accepts (f .limit) nodes branches last ≡ true → Made nodes branches (last .values) r → ReportHeld (rowCount f) report r
+  held : rowCount f ≤ 200 → accepts (f .limit) nodes branches last ≡ true → ReportHeld (rowCount f) report (made true)
   unfolding reportedCurrents reportedLosses reportedVoltages
-  held r few e m =
+  held few e =
       let t = both (nodes .inside) (branches .inside && between (pos 1) (pos (f .limit)) (nth (last .values) 1)) e in
       let u = both (branches .inside) (between (pos 1) (pos (f .limit)) (nth (last .values) 1)) (t .1) in
       record {
-        ok = m .ok;
+        ok = refl;
         nodeCount = n .counted;
         branchCount = b .counted;
         totalCount = l .seven;
-        nodeNames = m .nodeNames ∙ n .held .first;
-        voltages = m .voltages ∙ n .held .threes;
-        fromNames = m .fromNames ∙ b .held .first;
-        toNames = m .toNames ∙ b .held .second;
-        currents = m .currents ∙ b .held .threes;
-        losses = m .losses ∙ b .held .pairs;
-        totals = m .totals;
-        smallVoltages = column-within false (n .list) (r .voltages) (m .voltages ∙ n .held .threes) (omega (arith, n .counted)) (sym (n .held .inside) ∙ t .0);
-        smallCurrents = column-within true (b .list) (r .currents) (m .currents ∙ b .held .threes) (omega (arith, b .counted)) (sym (b .held .inside) ∙ u .0);
+        nodeNames = n .held .first;
+        voltages = n .held .threes;
+        fromNames = b .held .first;
+        toNames = b .held .second;
+        currents = b .held .threes;
+        losses = b .held .pairs;
+        totals = refl;
+        smallVoltages = column-within false (n .list) (nodes .threes) (n .held .threes) (omega (arith, n .counted)) (sym (n .held .inside) ∙ t .0);
+        smallCurrents = column-within true (b .list) (branches .threes) (b .held .threes) (omega (arith, b .counted)) (sym (b .held .inside) ∙ u .0);
       }
 
-  pub test-holds : (r : ReportRead) → rowCount f ≤ 200 → accepts (f .limit) nodes branches last ≡ true →
-      Made nodes branches (last .values) r → ReportIs (rowCount f) (reportOf f s) r
-  test-holds r few e m =
-      subst (λ (x : Outcome Reported). ReportIs (rowCount f) x r) (sym (by-test ∙ ap (λ (t : Bool). cond t (good report) (refused ReportLayout)) e)) (held r few e m)
+  -- what the tests say is what the reader answers
+  pub by-tests : (ok : Bool) → rowCount f ≤ 200 → accepts (f .limit) nodes branches last ≡ ok → ReportIs (rowCount f) (reportOf f s) (made ok)
+  by-tests true few e =
+      subst (λ (x : Outcome Reported). ReportIs (rowCount f) x (made true)) (sym (by-test ∙ ap (λ (t : Bool). cond t (good report) (refused ReportLayout)) e)) (held few e)
+  by-tests false few e = not-read (rowCount f) (reportOf f s) (made false) refl (by-test ∙ ap (λ (t : Bool). cond t (good report) (refused ReportLayout)) e)
+
+-- ---- an array of rows as made
+map-replicate : {X Y : Type 0} (f : X → Y) (n : ℕ) (d : X) → map f (replicate n d) ≡ replicate n (f d)
+map-replicate f zero d = refl
+map-replicate f (suc n) d = ap (λ (l : List _). f d ∷ l) (map-replicate f n d)
+
+pub made-threes : (l : List (List ℤ)) → l ≡ replicate 201 (noNumbers 6) → threesOf l ≡ replicate 201 zero3
+made-threes l e = ap threesOf e ∙ map-replicate threeOf 201 (noNumbers 6)
+
+pub made-pairs : (l : List (List ℤ)) → l ≡ replicate 201 (noNumbers 2) → pairsOf l ≡ replicate 201 0c
+made-pairs l e = ap pairsOf e ∙ map-replicate pairOf 201 (noNumbers 2)

@@ -12,7 +12,7 @@ use borrow.Author.Tests.{leb-true}
 use Rattle.answers.specs.Answers.{Outcome, good, refused}
 use Rattle.answers.specs.declared.Refusal.{Refusal}
 use Rattle.answers.specs.declared.Refusal.the-variants.{ReportLayout}
-use Rattle.integers.specs.Bools.{both}
+use Rattle.integers.specs.Bools.{both, clash}
 use Rattle.integers.specs.Lists.{all}
 use Rattle.integers.specs.PairLaws.{pair-eq}
 use Rattle.integers.specs.Pairs.{0c, inside, within}
@@ -90,8 +90,8 @@ row-as m n s at ws p x y values e f b = row-filled ReportLayout m n s at ws p x 
 module _ (s : List ℕ) (at p : ℕ) (x : Next) (values : List ℤ) (r : RowRead) (b : x ≡ Behind (r .next)) (t : r .three ≡ threeAt values 1) (i : r .inside ≡ within3 2000000 (r .three)) (h : r .next ≤ length s) where
   row-held : (branch : Bool) (ws : List ℕ) → names ReportLayout (nameCount branch) s at ≡ good (ws, p) → numbers ReportLayout (valueCount branch) s p ≡ filled ReportLayout x values →
       r .first ≡ getD ws 0 0 → r .second ≡ getD ws 1 0 → r .pair ≡ pairAt values 7 →
-      within3 2000000 (threeAt values 1) ≡ rowInside branch (record { words = ws; values = values }) → RowHeld branch s at r
-  row-held branch ws e f a c d j =
+      within3 2000000 (threeAt values 1) ≡ rowInside branch (record { words = ws; values = values }) → (branch ≡ false → (r .second ≡ 0) × (r .pair ≡ 0c)) → RowHeld branch s at r
+  row-held branch ws e f a c d j n =
       record {
         read = record { words = ws; values = values };
         whole = row-as (nameCount branch) (valueCount branch) s at ws p x (Behind (r .next)) values e f b;
@@ -101,14 +101,15 @@ module _ (s : List ℕ) (at p : ℕ) (x : Next) (values : List ℤ) (r : RowRead
         pair = d;
         inside = i ∙ ap (within3 2000000) t ∙ j;
         within = h;
+        blank = n;
       }
 
   pub node-held : (v : ℕ) → names ReportLayout 1 s at ≡ good (v ∷ [], p) → numbers ReportLayout 6 s p ≡ filled ReportLayout x values → length values ≡ 6 →
       r .first ≡ v → r .second ≡ 0 → r .pair ≡ 0c → RowHeld false s at r
   node-held v e f n a c d =
       let past : (k : ℕ) → 6 ≤ k → getD values k (pos 0) ≡ pos 0 = λ k q. List·getD-eq-default values (pos 0) (omega arith) in
-      row-held false (v ∷ []) e f a c (d ∙ sym (pair-eq (past 6 (omega arith)) (past 7 (omega arith)))) (all-inside values n)
+      row-held false (v ∷ []) e f a c (d ∙ sym (pair-eq (past 6 (omega arith)) (past 7 (omega arith)))) (all-inside values n) (λ z. (c, d))
 
   pub branch-held : (v w : ℕ) → names ReportLayout 2 s at ≡ good (v ∷ w ∷ [], p) → numbers ReportLayout 8 s p ≡ filled ReportLayout x values →
       r .first ≡ v → r .second ≡ w → r .pair ≡ pairAt values 7 → RowHeld true s at r
-  branch-held v w e f a c d = row-held true (v ∷ w ∷ []) e f a c d (six-inside values)
+  branch-held v w e f a c d = row-held true (v ∷ w ∷ []) e f a c d (six-inside values) (λ z. clash true refl z)

@@ -4,47 +4,21 @@ ghost use mathlib.Core.Bool.{_&&_};
 ghost use Prim.Native.Nat.{_+_, _<_, _≤_};
 ghost use lib.ListN.{length};
 ghost use Rattle.report.specs.Report.{rowsJust};
-ghost use Rattle.report_reader.specs.Read.{Empty, NamedTable, TableIs, nameCount, unusedCount, valueCount};
+ghost use Rattle.report_reader.specs.Read.{Empty, NamedTable, TableIs, nameCount, tableRead, unusedCount, valueCount};
 use crate::fields::read_row;
-use feeder::Three;
-use integers::Pair;
+use arrays::Names;
+use arrays::Pairs;
+use arrays::Threes;
+use arrays::put_pair;
+use arrays::put_three;
 use text::lines::stands;
 use text::lines::stands_empty;
 
-// Where `ok`, a table and the place behind it. Row k of the node table stands at place k, counted from 0, and row k of the branch table at place k,
-// counted from 1. `inside`: whether the voltages or currents are in their limit.
+// Where `ok`, the place behind a table, and whether its voltages or currents are in their limit.
 pub struct Table {
     pub ok: bool,
     pub next: usize,
-    pub first: [u64; 201],
-    pub second: [u64; 201],
-    pub threes: [Three; 201],
-    pub pairs: [Pair; 201],
     pub inside: bool,
-}
-
-// No row, in front of a place.
-fn no_rows(next: usize) -> Table
-    ensures { λ r. ⌜ Empty next r ⌝ }
-{
-    let pair = Pair { re: 0, im: 0 };
-    let three = Three {
-        a: pair,
-        b: pair,
-        c: pair,
-    };
-    let names = [0u64; 201];
-    let threes = [three; 201];
-    let pairs = [pair; 201];
-    Table {
-        ok: true,
-        next,
-        first: names,
-        second: names,
-        threes,
-        pairs,
-        inside: true,
-    }
 }
 
 fn both(a: bool, b: bool) -> bool
@@ -60,14 +34,28 @@ fn unused_count(branch: bool) -> usize
     if branch { 1 } else { 0 }
 }
 
-// Just so many rows, from a place on. Each row is stored in the table's arrays where they stand, since a function that takes the table
-// and gives it back copies the whole of it for each row.
-fn read_rows(part: &[u8], from: usize, count: usize, branch: bool) -> Table
+// Just so many rows, from a place on. Row k of the node table is stored at place k, counted from 0, and row k of the branch table at place k, counted from 1.
+// A node row has one name and no loss: it stores 0 in the other two arrays, which stay as they are.
+fn read_rows(
+    part: &[u8],
+    from: usize,
+    count: usize,
+    branch: bool,
+    first: &mut Names,
+    second: &mut Names,
+    threes: &mut Threes,
+    pairs: &mut Pairs,
+) -> Table
     requires { ⌜ from ≤ length (now part) ⌝ }
     requires { ⌜ unusedCount branch + count ≤ 201 ⌝ }
-    ensures { λ r. ⌜ TableIs branch count (now (part .entry)) (rowsJust count (nameCount branch) (valueCount branch) (now (part .entry)) from) r ⌝ }
+    requires { ⌜ Empty (now first) (now second) (now threes) (now pairs) ⌝ }
+    ensures { λ r. ⌜ TableIs branch count (now (part .entry)) (rowsJust count (nameCount branch) (valueCount branch) (now (part .entry)) from) (tableRead r (now (first .exit)) (now (second .exit)) (now (threes .exit)) (now (pairs .exit))) ⌝ }
 {
-    let mut t = no_rows(from);
+    let mut t = Table {
+        ok: true,
+        next: from,
+        inside: true,
+    };
     let mut k = unused_count(branch);
     let last = k + count;
     while k < last {
@@ -77,12 +65,10 @@ fn read_rows(part: &[u8], from: usize, count: usize, branch: bool) -> Table
             t.ok = false;
             return t;
         }
-        let three = row.three;
-        let pair = row.pair;
-        t.first[k] = row.first;
-        t.second[k] = row.second;
-        t.threes[k] = three;
-        t.pairs[k] = pair;
+        first[k] = row.first;
+        second[k] = row.second;
+        put_three(threes, k, row.three);
+        put_pair(pairs, k, row.pair);
         t.next = row.next;
         t.inside = both(t.inside, row.inside);
         k += 1;
@@ -91,17 +77,38 @@ fn read_rows(part: &[u8], from: usize, count: usize, branch: bool) -> Table
 }
 
 // The table with this line of names, from the start of a part of the report, and the empty line behind it.
-pub fn read_table(part: &[u8], header: &[u8], count: usize, branch: bool) -> Table
+pub fn read_table(
+    part: &[u8],
+    header: &[u8],
+    count: usize,
+    branch: bool,
+    first: &mut Names,
+    second: &mut Names,
+    threes: &mut Threes,
+    pairs: &mut Pairs,
+) -> Table
     requires { ⌜ 0 < length (now header) ⌝ }
     requires { ⌜ unusedCount branch + count ≤ 201 ⌝ }
-    ensures { λ r. ⌜ NamedTable branch count (now (header .entry)) (now (part .entry)) r ⌝ }
+    requires { ⌜ Empty (now first) (now second) (now threes) (now pairs) ⌝ }
+    ensures { λ r. ⌜ NamedTable branch count (now (header .entry)) (now (part .entry)) (tableRead r (now (first .exit)) (now (second .exit)) (now (threes .exit)) (now (pairs .exit))) ⌝ }
 {
     if !stands(part, 0, header) {
-        let mut none = no_rows(0);
-        none.ok = false;
-        return none;
+        return Table {
+            ok: false,
+            next: 0,
+            inside: true,
+        };
     }
-    let mut t = read_rows(part, header.len(), count, branch);
+    let mut t = read_rows(
+        part,
+        header.len(),
+        count,
+        branch,
+        first,
+        second,
+        threes,
+        pairs,
+    );
     if !t.ok {
         return t;
     }

@@ -3,14 +3,17 @@ ghost use mathlib.Core.List.{List, _++_};
 ghost use mathlib.Core.Path.{_≡_};
 ghost use Prim.Native.Nat.{_≤_};
 ghost use lib.ListN.{drop, length};
+ghost use Rattle.arrays.specs.Arrays.{branchesOf, pairsOf, threesOf};
 ghost use Rattle.feeder.specs.Feeder.{Feeder};
 ghost use Rattle.feeder.specs.declared.Three.{Three};
 ghost use Rattle.report.specs.Report.{reportText};
 ghost use Rattle.report_writer.specs.ReportIs.{Shown};
 ghost use Rattle.report_writer.specs.Tables.{Given, wholeText};
 ghost use Rattle.text.specs.Promises.{Written};
-use feeder::Branch;
-use feeder::Three;
+use arrays::Branches;
+use arrays::Names;
+use arrays::Pairs;
+use arrays::Threes;
 use integers::Pair;
 use tables::put_branches;
 use tables::put_nodes;
@@ -33,17 +36,18 @@ pub struct Figures {
 
 // How many bytes the report takes. At place k of the arrays stands what belongs to node k, or to the branch that feeds it.
 pub fn report_width(
-    nodes: [u64; 201],
-    branches: [Branch; 201],
+    nodes: &Names,
+    branches: &Branches,
     rows: usize,
-    v: [Three; 201],
-    i: [Three; 201],
-    losses: [Pair; 201],
+    v: &Threes,
+    i: &Threes,
+    losses: &Pairs,
     figures: Figures,
 ) -> usize
-    requires { ⌜ Given branches rows figures ⌝ }
-    ensures value { λ r. ⌜ r ≡ length (wholeText nodes branches rows v i losses figures) ⌝ }
-    ensures report { λ r. ⌜ ((f : Feeder) (vs is : List Three) → Shown f vs is nodes branches rows v i losses figures → r ≡ length (reportText f vs is (figures .sweeps))) ⌝ }
+    requires { ⌜ Given (branchesOf (now branches)) rows figures ⌝ }
+    ensures value { λ r. ⌜ r ≡ length (wholeText (now (nodes .entry)) (branchesOf (now (branches .entry))) rows (threesOf (now (v .entry))) (threesOf (now (i .entry))) (pairsOf (now (losses .entry))) figures) ⌝ }
+    ensures report { λ r. ⌜ ((f : Feeder) (vs is : List Three) → Shown f vs is (now (nodes .entry)) (branchesOf (now (branches .entry))) rows (threesOf (now (v .entry))) (threesOf (now (i .entry))) (pairsOf (now (losses .entry))) figures
+        → r ≡ length (reportText f vs is (figures .sweeps))) ⌝ }
 {
     let first = nodes_width(nodes, rows, v);
     let second = branches_width(nodes, branches, rows, i, losses);
@@ -54,18 +58,18 @@ pub fn report_width(
 // The report, from the start of `out`. Each table is written into the part of the buffer that starts where the table before it ended.
 pub fn put_report(
     out: &mut [u8],
-    nodes: [u64; 201],
-    branches: [Branch; 201],
+    nodes: &Names,
+    branches: &Branches,
     rows: usize,
-    v: [Three; 201],
-    i: [Three; 201],
-    losses: [Pair; 201],
+    v: &Threes,
+    i: &Threes,
+    losses: &Pairs,
     figures: Figures,
 ) -> usize
-    requires { ⌜ Given branches rows figures ⌝ }
-    requires { ⌜ length (wholeText nodes branches rows v i losses figures) ≤ length (now out) ⌝ }
-    ensures value { λ r. ⌜ Written (now (out .entry)) 0 (wholeText nodes branches rows v i losses figures) r (now (out .exit)) ⌝ }
-    ensures report { λ r. ⌜ ((f : Feeder) (vs is : List Three) → Shown f vs is nodes branches rows v i losses figures
+    requires { ⌜ Given (branchesOf (now branches)) rows figures ⌝ }
+    requires { ⌜ length (wholeText (now nodes) (branchesOf (now branches)) rows (threesOf (now v)) (threesOf (now i)) (pairsOf (now losses)) figures) ≤ length (now out) ⌝ }
+    ensures value { λ r. ⌜ Written (now (out .entry)) 0 (wholeText (now (nodes .entry)) (branchesOf (now (branches .entry))) rows (threesOf (now (v .entry))) (threesOf (now (i .entry))) (pairsOf (now (losses .entry))) figures) r (now (out .exit)) ⌝ }
+    ensures report { λ r. ⌜ ((f : Feeder) (vs is : List Three) → Shown f vs is (now (nodes .entry)) (branchesOf (now (branches .entry))) rows (threesOf (now (v .entry))) (threesOf (now (i .entry))) (pairsOf (now (losses .entry))) figures
         → (r ≡ length (reportText f vs is (figures .sweeps)))
         × (now (out .exit) ≡ reportText f vs is (figures .sweeps) ++ drop (length (reportText f vs is (figures .sweeps))) (now (out .entry)))) ⌝ }
 {

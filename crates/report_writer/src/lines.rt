@@ -8,7 +8,6 @@ ghost use Rattle.text.specs.Text.{decimal};
 use crate::Figures;
 use feeder::Three;
 use integers::Pair;
-use integers::whole;
 use text::write::put_byte;
 use text::write::put_name;
 use text::write::put_number;

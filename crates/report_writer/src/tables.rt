@@ -1,6 +1,7 @@
 // Writers of the report's tables. A table is written from the start of the buffer that it is lent.
 ghost use Prim.Native.Nat.{_<_, _≤_};
 ghost use lib.ListN.{length};
+ghost use Rattle.arrays.specs.Arrays.{branchesOf, pairsOf, threesOf};
 ghost use Rattle.report_writer.specs.Lines.{branchTable, nodeTable, totalsTable};
 ghost use Rattle.report_writer.specs.Tables.{Linked, branchLineAt, nodeLineAt};
 ghost use Rattle.text.specs.Promises.{Written};
@@ -8,23 +9,27 @@ use crate::Figures;
 use crate::lines::put_branch;
 use crate::lines::put_node;
 use crate::lines::put_totals_line;
-use feeder::Branch;
-use feeder::Three;
-use integers::Pair;
+use arrays::Branches;
+use arrays::Names;
+use arrays::Pairs;
+use arrays::Threes;
+use arrays::from_at;
+use arrays::pair_at;
+use arrays::three_at;
 use text::write::put_byte;
 use text::write::put_bytes;
 
 // The column names, a line for each node, and an empty line.
-pub fn put_nodes(out: &mut [u8], nodes: [u64; 201], rows: usize, v: [Three; 201]) -> usize
+pub fn put_nodes(out: &mut [u8], nodes: &Names, rows: usize, v: &Threes) -> usize
     requires { ⌜ rows ≤ 200 ⌝ }
-    requires { ⌜ length (nodeTable (nodeLineAt nodes v) rows) ≤ length (now out) ⌝ }
-    ensures { λ r. ⌜ Written (now (out .entry)) 0 (nodeTable (nodeLineAt nodes v) rows) r (now (out .exit)) ⌝ }
+    requires { ⌜ length (nodeTable (nodeLineAt (now nodes) (threesOf (now v))) rows) ≤ length (now out) ⌝ }
+    ensures { λ r. ⌜ Written (now (out .entry)) 0 (nodeTable (nodeLineAt (now (nodes .entry)) (threesOf (now (v .entry)))) rows) r (now (out .exit)) ⌝ }
 {
     let mut at = put_bytes(out, 0, b"node,va_re,va_im,vb_re,vb_im,vc_re,vc_im\n");
     let mut k = 0;
     while k <= rows {
         let name = nodes[k];
-        let x = v[k];
+        let x = three_at(v, k);
         at = put_node(out, at, name, x);
         k += 1;
     }
@@ -34,16 +39,16 @@ pub fn put_nodes(out: &mut [u8], nodes: [u64; 201], rows: usize, v: [Three; 201]
 // The column names, a line for each branch row, and an empty line.
 pub fn put_branches(
     out: &mut [u8],
-    nodes: [u64; 201],
-    branches: [Branch; 201],
+    nodes: &Names,
+    branches: &Branches,
     rows: usize,
-    i: [Three; 201],
-    losses: [Pair; 201],
+    i: &Threes,
+    losses: &Pairs,
 ) -> usize
     requires { ⌜ rows ≤ 200 ⌝ }
-    requires { ⌜ Linked branches rows ⌝ }
-    requires { ⌜ length (branchTable (branchLineAt nodes branches i losses) rows) ≤ length (now out) ⌝ }
-    ensures { λ r. ⌜ Written (now (out .entry)) 0 (branchTable (branchLineAt nodes branches i losses) rows) r (now (out .exit)) ⌝ }
+    requires { ⌜ Linked (branchesOf (now branches)) rows ⌝ }
+    requires { ⌜ length (branchTable (branchLineAt (now nodes) (branchesOf (now branches)) (threesOf (now i)) (pairsOf (now losses))) rows) ≤ length (now out) ⌝ }
+    ensures { λ r. ⌜ Written (now (out .entry)) 0 (branchTable (branchLineAt (now (nodes .entry)) (branchesOf (now (branches .entry))) (threesOf (now (i .entry))) (pairsOf (now (losses .entry)))) rows) r (now (out .exit)) ⌝ }
 {
     let mut at = put_bytes(
         out,
@@ -52,11 +57,11 @@ pub fn put_branches(
     );
     let mut row = 1;
     while row <= rows {
-        let from = branches[row].from;
+        let from = from_at(branches, row);
         let upper = nodes[from];
         let lower = nodes[row];
-        let x = i[row];
-        let loss = losses[row];
+        let x = three_at(i, row);
+        let loss = pair_at(losses, row);
         at = put_branch(out, at, upper, lower, x, loss);
         row += 1;
     }

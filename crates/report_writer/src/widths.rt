@@ -2,10 +2,17 @@
 ghost use mathlib.Core.Path.{_≡_};
 ghost use Prim.Native.Nat.{_<_, _≤_};
 ghost use lib.ListN.{length};
+ghost use Rattle.arrays.specs.Arrays.{branchesOf, pairsOf, threesOf};
 ghost use Rattle.report_writer.specs.Lines.{branchRow, branchTable, nodeRow, nodeTable, pairFields, threeFields, totalsRow, totalsTable};
 ghost use Rattle.report_writer.specs.Tables.{Linked, branchLineAt, nodeLineAt};
 use crate::Figures;
-use feeder::Branch;
+use arrays::Branches;
+use arrays::Names;
+use arrays::Pairs;
+use arrays::Threes;
+use arrays::from_at;
+use arrays::pair_at;
+use arrays::three_at;
 use feeder::Three;
 use integers::Pair;
 use text::write::name_width;
@@ -58,16 +65,16 @@ pub fn totals_line_width(figures: Figures) -> usize
 }
 
 // The tables.
-pub fn nodes_width(nodes: [u64; 201], rows: usize, v: [Three; 201]) -> usize
+pub fn nodes_width(nodes: &Names, rows: usize, v: &Threes) -> usize
     requires { ⌜ rows ≤ 200 ⌝ }
-    ensures value { λ r. ⌜ r ≡ length (nodeTable (nodeLineAt nodes v) rows) ⌝ }
+    ensures value { λ r. ⌜ r ≡ length (nodeTable (nodeLineAt (now (nodes .entry)) (threesOf (now (v .entry)))) rows) ⌝ }
     ensures size { λ r. ⌜ r < 1000000 ⌝ }
 {
     let mut width = 42;
     let mut k = 0;
     while k <= rows {
         let name = nodes[k];
-        let x = v[k];
+        let x = three_at(v, k);
         width += node_width(name, x);
         k += 1;
     }
@@ -75,25 +82,25 @@ pub fn nodes_width(nodes: [u64; 201], rows: usize, v: [Three; 201]) -> usize
 }
 
 pub fn branches_width(
-    nodes: [u64; 201],
-    branches: [Branch; 201],
+    nodes: &Names,
+    branches: &Branches,
     rows: usize,
-    i: [Three; 201],
-    losses: [Pair; 201],
+    i: &Threes,
+    losses: &Pairs,
 ) -> usize
     requires { ⌜ rows ≤ 200 ⌝ }
-    requires { ⌜ Linked branches rows ⌝ }
-    ensures value { λ r. ⌜ r ≡ length (branchTable (branchLineAt nodes branches i losses) rows) ⌝ }
+    requires { ⌜ Linked (branchesOf (now branches)) rows ⌝ }
+    ensures value { λ r. ⌜ r ≡ length (branchTable (branchLineAt (now (nodes .entry)) (branchesOf (now (branches .entry))) (threesOf (now (i .entry))) (pairsOf (now (losses .entry)))) rows) ⌝ }
     ensures size { λ r. ⌜ r < 1000000 ⌝ }
 {
     let mut width = 59;
     let mut row = 1;
     while row <= rows {
-        let from = branches[row].from;
+        let from = from_at(branches, row);
         let upper = nodes[from];
         let lower = nodes[row];
-        let x = i[row];
-        let loss = losses[row];
+        let x = three_at(i, row);
+        let loss = pair_at(losses, row);
         width += branch_width(upper, lower, x, loss);
         row += 1;
     }

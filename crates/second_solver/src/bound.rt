@@ -13,33 +13,32 @@
 use crate::component::Quantity;
 use crate::component::rounding;
 use crate::phasor::Phasor;
+use crate::phasor::PhasorRows;
 use crate::phasor::Phasors;
-use crate::phasor::add_each;
+use crate::phasor::add_at;
 use crate::phasor::length;
 use crate::phasor::no_phasors;
 use crate::phasor::phasor_of;
+use crate::phasor::phasors_at;
 use crate::phasor::phasors_of;
 use crate::phasor::real;
 use crate::phasor::root;
-use crate::solver::all_still;
-use crate::solver::downward;
 use crate::solver::load_count;
 use crate::solver::on_phase;
 use crate::solver::only_on;
 use crate::solver::place;
-use crate::solver::upward;
+use crate::solver::sweep;
+use arrays::Threes;
+use arrays::three_at;
 use feeder::Load;
 use feeder::LoadKind;
 use feeder::Network;
 use feeder::Three;
 
-// Where `found`, the bounds on the voltages at each node in cV, to which `moved` is added for the last sweep's movement, and on the currents of each branch
-// in mA. They stand in re.
+// Whether there are bounds, and what is added to those on the voltages for the last sweep's movement.
 pub struct Bounds {
     pub found: bool,
-    pub voltages: [Phasors; 201],
     pub moved: f64,
-    pub currents: [Phasors; 201],
 }
 
 // How far the current of a load is off where its voltage is off by at most e: its slope times e, its rounding, and for constant current its whole root.
@@ -78,31 +77,36 @@ fn load_bounds(l: Load, solved: Phasors, reported: Three, bounds: Phasors, moved
 fn drawn_bounds(
     loads: [Load; 300],
     rows: usize,
-    solved: [Phasors; 201],
-    reported: [Three; 201],
-    bounds: [Phasors; 201],
+    solved: &PhasorRows,
+    reported: &Threes,
+    bounds: &PhasorRows,
     moved: f64,
-) -> [Phasors; 201] {
+    own: &mut PhasorRows,
+) {
     let count = load_count(rows);
-    let none = no_phasors();
-    let mut own = [none; 201];
+    let none = [[0.0f64; 6]; 201];
+    *own = none;
     let mut row = 0;
     while row < count {
         let l = loads[row];
-        let node = place(l.node);
-        let v = solved[node];
-        let w = reported[node];
-        let e = bounds[node];
-        let held = own[node];
-        let sum = add_each(held, load_bounds(l, v, w, e, moved));
-        own[node] = sum;
         row += 1;
+        let node = place(l.node);
+        let v = phasors_at(solved, node);
+        let w = three_at(reported, node);
+        let e = phasors_at(bounds, node);
+        add_at(own, node, load_bounds(l, v, w, e, moved));
     }
-    own
 }
 
-// The bounds, from the voltages in floats and the reported ones, if 1,000 sweeps are enough. The source is not off.
-pub fn bounds_on(g: Network, solved: [Phasors; 201], reported: [Three; 201]) -> Bounds {
+// The bounds on the voltages at each node in cV and on the currents of each branch in mA, from the voltages in floats and the reported ones, if 1,000 sweeps are
+// enough. They stand in re, and are 0 before the first sweep. The source is not off.
+pub fn bounds_on(
+    g: Network,
+    solved: &PhasorRows,
+    reported: &Threes,
+    voltages: &mut PhasorRows,
+    currents: &mut PhasorRows,
+) -> Bounds {
     let branches = g.branches;
     let rows = g.rows;
     let order = g.order;
@@ -110,28 +114,26 @@ pub fn bounds_on(g: Network, solved: [Phasors; 201], reported: [Three; 201]) -> 
     let count = g.count;
     let none = no_phasors();
     let moved = root(2.0) * std::num::nearest_u64_to_f64(g.tol);
-    let mut e = [none; 201];
-    let mut i = [none; 201];
+    let no_rows = [[0.0f64; 6]; 201];
+    *voltages = no_rows;
     let mut sweeps: usize = 0;
     while sweeps < 1000 {
-        let own = drawn_bounds(loads, count, solved, reported, e, moved);
-        i = upward(branches, rows, order, Quantity::Bound, own);
-        let grown = downward(branches, rows, order, Quantity::Bound, none, i);
-        if all_still(rows, e, grown) {
-            return Bounds {
-                found: true,
-                voltages: grown,
-                moved,
-                currents: i,
-            };
+        drawn_bounds(loads, count, solved, reported, voltages, moved, currents);
+        if sweep(
+            branches,
+            rows,
+            &order,
+            Quantity::Bound,
+            none,
+            currents,
+            voltages,
+        ) {
+            return Bounds { found: true, moved };
         }
-        e = grown;
         sweeps += 1;
     }
     Bounds {
         found: false,
-        voltages: e,
         moved,
-        currents: i,
     }
 }

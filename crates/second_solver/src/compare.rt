@@ -1,11 +1,14 @@
 // The report against the solution in floats.
 use crate::phasor::Phasor;
+use crate::phasor::PhasorRows;
 use crate::phasor::Phasors;
 use crate::phasor::distance;
 use crate::phasor::larger;
+use crate::phasor::phasors_at;
 use crate::phasor::phasors_of;
 use crate::solver::place;
-use feeder::Three;
+use arrays::Threes;
+use arrays::three_at;
 
 // The largest distance in re or im, and the largest share of its bound that a distance has, each over all rows and phases.
 pub struct Compared {
@@ -40,9 +43,9 @@ fn compare_row(
 // Voltages or currents, by node numbers. `moved` is added to each bound.
 pub fn compare(
     rows: usize,
-    solved: [Phasors; 201],
-    reported: [Three; 201],
-    bounds: [Phasors; 201],
+    solved: &PhasorRows,
+    reported: &Threes,
+    bounds: &PhasorRows,
     moved: f64,
 ) -> Compared {
     let last = place(rows);
@@ -52,9 +55,9 @@ pub fn compare(
     };
     let mut k = 1;
     while k <= last {
-        let x = solved[k];
-        let y = reported[k];
-        let e = bounds[k];
+        let x = phasors_at(solved, k);
+        let y = three_at(reported, k);
+        let e = phasors_at(bounds, k);
         c = compare_row(c, x, phasors_of(y), e, moved);
         k += 1;
     }

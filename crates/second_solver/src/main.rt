@@ -7,9 +7,11 @@ ghost use lib.ListN.{length};
 use crate::bound::bounds_on;
 use crate::compare::Compared;
 use crate::compare::compare;
+use crate::phasor::PhasorRows;
 use crate::solver::place;
 use crate::solver::solve;
 use answers::number_of;
+use arrays::Threes;
 use cases::Case;
 use cases::case_at;
 use cases::read_cases;
@@ -23,7 +25,6 @@ use programs::print_refusal;
 use programs::used;
 use reading::ReadAnswer;
 use reading::read_feeder;
-use report_reader::ReportRead;
 use report_reader::read_report;
 
 pub mod bound;
@@ -73,27 +74,42 @@ fn print_both(voltages: Compared, currents: Compared) {
     print(b"\n");
 }
 
-// The line of a feeder with a report, behind its name.
-fn try_report(g: Network, report: ReportRead) {
-    let s = solve(g);
-    if !s.settled {
-        print(b" OVER: the floats do not settle\n");
-        return;
-    }
-    let solved_voltages = s.voltages;
-    let solved_currents = s.currents;
-    let voltages = report.voltages;
-    let currents = report.currents;
-    let e = bounds_on(g, solved_voltages, voltages);
-    if !e.found {
+// The line of a feeder with a report, behind its name, from its solution in floats.
+fn try_solved(
+    g: Network,
+    solved_voltages: &PhasorRows,
+    solved_currents: &PhasorRows,
+    voltages: &Threes,
+    currents: &Threes,
+) {
+    let mut voltage_bounds = [[0.0f64; 6]; 201];
+    let mut current_bounds = [[0.0f64; 6]; 201];
+    let e = bounds_on(
+        g,
+        solved_voltages,
+        voltages,
+        &mut voltage_bounds,
+        &mut current_bounds,
+    );
+    if e.found {
+        let v = compare(g.rows, solved_voltages, voltages, &voltage_bounds, e.moved);
+        let i = compare(g.rows, solved_currents, currents, &current_bounds, 0.0);
+        print_both(v, i);
+    } else {
         print(b" OVER: there is no bound\n");
-        return;
     }
-    let voltage_bounds = e.voltages;
-    let current_bounds = e.currents;
-    let v = compare(g.rows, solved_voltages, voltages, voltage_bounds, e.moved);
-    let i = compare(g.rows, solved_currents, currents, current_bounds, 0.0);
-    print_both(v, i);
+}
+
+// The line of a feeder with a report, behind its name.
+fn try_report(g: Network, voltages: &Threes, currents: &Threes) {
+    let mut solved_voltages = [[0.0f64; 6]; 201];
+    let mut solved_currents = [[0.0f64; 6]; 201];
+    let s = solve(g, &mut solved_voltages, &mut solved_currents);
+    if s.settled {
+        try_solved(g, &solved_voltages, &solved_currents, voltages, currents);
+    } else {
+        print(b" OVER: the floats do not settle\n");
+    }
 }
 
 // The feeder's limit of sweeps, and the sweeps in which the floats settle. Where the floats settle within that limit, it is the whole numbers that run in a circle.
@@ -111,7 +127,9 @@ fn print_sweeps(limit: usize, sweeps: usize) {
 
 // The line of a feeder that the study leaves unsettled (34), behind its name.
 fn try_unsettled(g: Network) {
-    let s = solve(g);
+    let mut voltages = [[0.0f64; 6]; 201];
+    let mut currents = [[0.0f64; 6]; 201];
+    let s = solve(g, &mut voltages, &mut currents);
     if s.settled {
         print_sweeps(g.limit, s.sweeps);
     } else {
@@ -128,9 +146,27 @@ fn limit_of(limit: usize) -> usize
 
 // The line of a feeder in memory with the text of its report, behind its name.
 fn try_written(g: Network, written: &[u8]) {
-    let report = read_report(written, place(g.rows), limit_of(g.limit));
-    if report.ok {
-        try_report(g, report);
+    let mut node_names = [0u64; 201];
+    let mut voltages = [[0i64; 6]; 201];
+    let mut from_names = [0u64; 201];
+    let mut to_names = [0u64; 201];
+    let mut currents = [[0i64; 6]; 201];
+    let mut losses = [[0i64; 2]; 201];
+    let mut totals = [0i64; 7];
+    let read = read_report(
+        written,
+        place(g.rows),
+        limit_of(g.limit),
+        &mut node_names,
+        &mut voltages,
+        &mut from_names,
+        &mut to_names,
+        &mut currents,
+        &mut losses,
+        &mut totals,
+    );
+    if read {
+        try_report(g, &voltages, &currents);
     } else {
         print(b" OVER: the report is not read\n");
     }

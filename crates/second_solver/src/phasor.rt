@@ -1,4 +1,5 @@
 // The second solver's numbers: 64-bit floats, and phasors (re, im) of them.
+ghost use Prim.Native.Nat.{_≤_};
 use feeder::Three;
 use integers::Pair;
 
@@ -14,6 +15,9 @@ pub struct Phasors {
     pub b: Phasor,
     pub c: Phasor,
 }
+
+// Phasors for each node, or for the branch that feeds it, as numbers that can be lent: re and im on each phase.
+pub type PhasorRows = [[f64; 6]; 201];
 
 // A real number for each phase.
 pub struct Reals {
@@ -92,6 +96,34 @@ pub fn add_each(x: Phasors, y: Phasors) -> Phasors {
         b: add(x.b, y.b),
         c: add(x.c, y.c),
     }
+}
+
+pub fn phasors_at(rows: &PhasorRows, k: usize) -> Phasors
+    requires { ⌜ k ≤ 200 ⌝ }
+{
+    let n = rows[k];
+    let a = Phasor { re: n[0], im: n[1] };
+    let b = Phasor { re: n[2], im: n[3] };
+    let c = Phasor { re: n[4], im: n[5] };
+    Phasors { a, b, c }
+}
+
+pub fn put_phasors(rows: &mut PhasorRows, k: usize, x: Phasors)
+    requires { ⌜ k ≤ 200 ⌝ }
+{
+    let a = x.a;
+    let b = x.b;
+    let c = x.c;
+    let n = [a.re, a.im, b.re, b.im, c.re, c.im];
+    rows[k] = n;
+}
+
+// Adds x to what stands at place k.
+pub fn add_at(rows: &mut PhasorRows, k: usize, x: Phasors)
+    requires { ⌜ k ≤ 200 ⌝ }
+{
+    let held = phasors_at(rows, k);
+    put_phasors(rows, k, add_each(held, x));
 }
 
 pub fn absolute(x: f64) -> f64 {

@@ -4,30 +4,30 @@ use crate::component::Quantity;
 use crate::component::far_voltages;
 use crate::component::near_currents;
 use crate::phasor::Phasor;
+use crate::phasor::PhasorRows;
 use crate::phasor::Phasors;
-use crate::phasor::add_each;
+use crate::phasor::add_at;
 use crate::phasor::conj;
 use crate::phasor::distance;
 use crate::phasor::length;
 use crate::phasor::mul;
-use crate::phasor::no_phasors;
 use crate::phasor::phasor_of;
+use crate::phasor::phasors_at;
 use crate::phasor::phasors_of;
+use crate::phasor::put_phasors;
 use crate::phasor::real;
 use crate::phasor::scale;
+use arrays::Places;
 use feeder::Branch;
 use feeder::Load;
 use feeder::LoadKind;
 use feeder::Network;
 use feeder::Phase;
 
-// Where `settled`, the voltages at each node and the currents at the far end of each branch, by node numbers as in the feeder in memory; and the number
-// of sweeps made.
+// Whether the voltages settled, and the number of sweeps made.
 pub struct Solution {
     pub settled: bool,
     pub sweeps: usize,
-    pub voltages: [Phasors; 201],
-    pub currents: [Phasors; 201],
 }
 
 // A node's number or a number of branch rows, which is at most 200 in every feeder.
@@ -93,71 +93,63 @@ fn load_currents(l: Load, voltages: Phasors) -> Phasors {
 }
 
 // What the loads draw at each node.
-fn drawn(loads: [Load; 300], rows: usize, v: [Phasors; 201]) -> [Phasors; 201] {
+fn drawn(loads: [Load; 300], rows: usize, v: &PhasorRows, own: &mut PhasorRows) {
     let count = load_count(rows);
-    let none = no_phasors();
-    let mut own = [none; 201];
+    let none = [[0.0f64; 6]; 201];
+    *own = none;
     let mut row = 0;
     while row < count {
         let l = loads[row];
-        let node = place(l.node);
-        let u = v[node];
-        let held = own[node];
-        let sum = add_each(held, load_currents(l, u));
-        own[node] = sum;
         row += 1;
+        let node = place(l.node);
+        let u = phasors_at(v, node);
+        add_at(own, node, load_currents(l, u));
     }
-    own
 }
 
 // The currents, from what the loads draw at each node: upward, what the branches take is added.
-pub fn upward(
+fn upward(
     branches: [Branch; 201],
     rows: usize,
-    order: [usize; 201],
+    order: &Places,
     quantity: Quantity,
-    own: [Phasors; 201],
-) -> [Phasors; 201] {
-    let mut i = own;
+    i: &mut PhasorRows,
+) {
     let mut left = place(rows);
     while 0 < left {
         let m = place(order[left]);
         let b = branches[m];
         let n = place(b.from);
-        let far = i[m];
-        let held = i[n];
-        let sum = add_each(held, near_currents(b, quantity, far));
-        i[n] = sum;
+        let far = phasors_at(i, m);
+        add_at(i, n, near_currents(b, quantity, far));
         left -= 1;
     }
-    i
 }
 
 // The voltages from the currents, from the source downward.
-pub fn downward(
+fn downward(
     branches: [Branch; 201],
     rows: usize,
-    order: [usize; 201],
+    order: &Places,
     quantity: Quantity,
     source: Phasors,
-    i: [Phasors; 201],
-) -> [Phasors; 201] {
+    i: &PhasorRows,
+    v: &mut PhasorRows,
+) {
     let last = place(rows);
-    let none = no_phasors();
-    let mut v = [none; 201];
-    v[0] = source;
+    let none = [[0.0f64; 6]; 201];
+    *v = none;
+    put_phasors(v, 0, source);
     let mut next = 1;
     while next <= last {
         let m = place(order[next]);
+        next += 1;
         let b = branches[m];
         let n = place(b.from);
-        let near = v[n];
-        let current = i[m];
-        let far = far_voltages(b, quantity, near, current);
-        v[m] = far;
-        next += 1;
+        let near = phasors_at(v, n);
+        let current = phasors_at(i, m);
+        put_phasors(v, m, far_voltages(b, quantity, near, current));
     }
-    v
 }
 
 // Whether x and y are less than 10^-7 cV apart on each phase.
@@ -170,12 +162,12 @@ fn still(x: Phasors, y: Phasors) -> bool {
     false
 }
 
-pub fn all_still(rows: usize, v: [Phasors; 201], w: [Phasors; 201]) -> bool {
+fn all_still(rows: usize, v: &PhasorRows, w: &PhasorRows) -> bool {
     let last = place(rows);
     let mut k = 1;
     while k <= last {
-        let x = v[k];
-        let y = w[k];
+        let x = phasors_at(v, k);
+        let y = phasors_at(w, k);
         if !still(x, y) {
             return false;
         }
@@ -184,37 +176,47 @@ pub fn all_still(rows: usize, v: [Phasors; 201], w: [Phasors; 201]) -> bool {
     true
 }
 
-// The solution, if 1,000 sweeps are enough.
-pub fn solve(g: Network) -> Solution {
+// One sweep, from what the loads draw at each node, which `i` holds: the currents there, the voltages to which they lead, and whether these stand still.
+pub fn sweep(
+    branches: [Branch; 201],
+    rows: usize,
+    order: &Places,
+    quantity: Quantity,
+    source: Phasors,
+    i: &mut PhasorRows,
+    v: &mut PhasorRows,
+) -> bool {
+    let mut w = [[0.0f64; 6]; 201];
+    upward(branches, rows, order, quantity, i);
+    downward(branches, rows, order, quantity, source, i, &mut w);
+    let settled = all_still(rows, v, &w);
+    *v = w;
+    settled
+}
+
+// The solution, if 1,000 sweeps are enough: the voltages at each node and the currents at the far end of each branch, by node numbers as in the feeder in memory.
+pub fn solve(g: Network, v: &mut PhasorRows, i: &mut PhasorRows) -> Solution {
     let branches = g.branches;
     let rows = g.rows;
     let order = g.order;
     let loads = g.loads;
     let count = g.count;
-    let none = no_phasors();
-    let mut i = [none; 201];
     let source = phasors_of(g.source);
-    let mut v = downward(branches, rows, order, Quantity::Value, source, i);
+    let none = [[0.0f64; 6]; 201];
+    downward(branches, rows, &order, Quantity::Value, source, &none, v);
     let mut sweeps: usize = 0;
     while sweeps < 1000 {
-        let own = drawn(loads, count, v);
-        i = upward(branches, rows, order, Quantity::Value, own);
-        let w = downward(branches, rows, order, Quantity::Value, source, i);
+        drawn(loads, count, v, i);
         sweeps += 1;
-        if all_still(rows, v, w) {
+        if sweep(branches, rows, &order, Quantity::Value, source, i, v) {
             return Solution {
                 settled: true,
                 sweeps,
-                voltages: w,
-                currents: i,
             };
         }
-        v = w;
     }
     Solution {
         settled: false,
         sweeps,
-        voltages: v,
-        currents: i,
     }
 }

@@ -31,10 +31,10 @@ workOf false true over = LoadBeyond
 workOf false false true = CurrentBeyond
 workOf false false false = Fine
 
--- the currents of f from the voltages v, and the power drawn
-pub record WorkedIs (f : Feeder) (v : List Three) (r : Worked) : Type 0 where
+-- the currents of f from the voltages v, which are i, and the power drawn
+pub record WorkedIs (f : Feeder) (v : List Three) (r : Worked) (i : List Three) : Type 0 where
   pub work-is : r .work ≡ workOf (zeroVoltage f v) (loadBeyond f v) (currentBeyond f (currents f v))
-  pub currents-are : r .work ≡ Fine → r .currents ≡ kept zero3 201 (currents f v)
+  pub currents-are : r .work ≡ Fine → i ≡ kept zero3 201 (currents f v)
   pub drawn-is : r .work ≡ Fine → r .drawn ≡ drawnPower f v
 
 -- no current of a branch beyond ±2·10^6, and none at the source beyond ±10^9
@@ -42,6 +42,6 @@ pub record SmallCurrents (rows : ℕ) (i : List Three) : Type 0 where
   pub branch : (k : ℕ) → 0 < k → k < rows + 1 → Within3 2000000 (getD i k zero3)
   pub source : Within3 1000000000 (getD i 0 zero3)
 
-pub record SmallWork (rows : ℕ) (r : Worked) : Type 0 where
-  pub currents : r .work ≡ Fine → SmallCurrents rows (r .currents)
+pub record SmallWork (rows : ℕ) (r : Worked) (i : List Three) : Type 0 where
+  pub currents-small : r .work ≡ Fine → SmallCurrents rows i
   pub drawn : Within 2400000000000000 (r .drawn)

@@ -14,7 +14,7 @@ use Rattle.feeder.specs.declared.BranchRow.{BranchRow}
 use Rattle.feeder.specs.declared.LoadRow.{LoadRow}
 use Rattle.tables.specs.declared.LayoutEnd.the-variants.{Bad, Good}
 use Rattle.tables.specs.declared.Tables.{Tables}
-use Rattle.tables.specs.Read.{GoodLayout, LayoutRead, restOf}
+use Rattle.tables.specs.Read.{BadLayout, GoodLayout, LayoutAs, LayoutRead, restOf}
 
 pub layout-source : (s : List ℕ) (x : Row) (p : ℕ) → sourceTable s ≡ good (x, p) → layout s ≡ restOf (wordOf x 0) (x .values) (drop p s)
 unfolding layout restOf
@@ -39,23 +39,37 @@ module _ (source : ℕ) (given : List ℤ) (s : List ℕ) where
     unfolding restOf
     rest-whole ls h = simp (e, h)
 
--- ---- what is shown of an answer
-pub read-bad : (o : Outcome Rows) (t : Tables) (n : ℕ) → o ≡ refused (Layout n) → t .end ≡ Bad n → LayoutRead o t
-read-bad o t n e h = subst (λ (z : Outcome Rows). LayoutRead z t) (sym e) (record { line = n; refusal = refl; ends = h })
-
-pub read-good : (o : Outcome Rows) (t : Tables) (r : Rows) → o ≡ good r → GoodLayout r t → LayoutRead o t
-read-good o t r e h = subst (λ (z : Outcome Rows). LayoutRead z t) (sym e) h
-
--- ---- what an answer says of the file
-pub record Laid (o : Outcome Rows) (t : Tables) : Type 0 where
+-- ---- an answer and the arrays that it fills: what is shown of them, and what they say of the file
+pub record Laid (o : Outcome Rows) (t : Tables) (froms nodes : List ℕ) (branches : List (List ℤ)) (names : List ℕ) (loads : List (List ℤ)) : Type 0 where
   pub rows : Rows
   pub whole : o ≡ good rows
-  pub held : GoodLayout rows t
+  pub held : GoodLayout rows t froms nodes branches names loads
 
-pub laid : (o : Outcome Rows) (t : Tables) → LayoutRead o t → t .end ≡ Good → Laid o t
-laid (good r) t h e = record { rows = r; whole = refl; held = h }
-laid (refused r) t h e = let b = h .ends in let z : _≡_ {A = ℕ} 0 1 = cc in absurd (omega arith)
+module _ {o : Outcome Rows} {t : Tables} {froms nodes : List ℕ} {branches : List (List ℤ)} {names : List ℕ} {loads : List (List ℤ)} where
+  pub read-bad : (n : ℕ) → o ≡ refused (Layout n) → t .end ≡ Bad n → LayoutRead o t froms nodes branches names loads
+  read-bad n e h = record { said = subst (λ (z : Outcome Rows). LayoutAs z t froms nodes branches names loads) (sym e) (record { line = n; refusal = refl; ends = h }) }
 
-pub unlaid : (o : Outcome Rows) (t : Tables) (n : ℕ) → LayoutRead o t → t .end ≡ Bad n → o ≡ refused (Layout n)
-unlaid (good r) t n h e = let b = h .end in let z : _≡_ {A = ℕ} 0 1 = cc in absurd (omega arith)
-unlaid (refused r) t n h e = let b = h .ends in let k : h .line ≡ n = cc in ap refused (h .refusal ∙ ap Layout k)
+  pub read-good : (r : Rows) → o ≡ good r → GoodLayout r t froms nodes branches names loads → LayoutRead o t froms nodes branches names loads
+  read-good r e h = record { said = subst (λ (z : Outcome Rows). LayoutAs z t froms nodes branches names loads) (sym e) h }
+
+  -- of the same file, said in another way
+  pub read-as : {o-too : Outcome Rows} → o ≡ o-too → LayoutRead o-too t froms nodes branches names loads → LayoutRead o t froms nodes branches names loads
+  read-as e h = subst (λ (z : Outcome Rows). LayoutRead z t froms nodes branches names loads) (sym e) h
+
+  pub laid : LayoutRead o t froms nodes branches names loads → t .end ≡ Good → Laid o t froms nodes branches names loads
+  laid h e = go o refl
+    where
+      go : (z : Outcome Rows) → o ≡ z → Laid o t froms nodes branches names loads
+      go (good r) d = record { rows = r; whole = d; held = subst (λ (z : Outcome Rows). LayoutAs z t froms nodes branches names loads) d (h .said) }
+      go (refused r) d = let b : BadLayout r (t .end) = subst (λ (z : Outcome Rows). LayoutAs z t froms nodes branches names loads) d (h .said) in let k = b .ends in let z : _≡_ {A = ℕ} 0 1 = cc in absurd (omega arith)
+
+  pub unlaid : (n : ℕ) → LayoutRead o t froms nodes branches names loads → t .end ≡ Bad n → o ≡ refused (Layout n)
+  unlaid n h e = go o refl
+    where
+      go : (z : Outcome Rows) → o ≡ z → o ≡ refused (Layout n)
+      go (good r) d = let b : GoodLayout r t froms nodes branches names loads = subst (λ (z : Outcome Rows). LayoutAs z t froms nodes branches names loads) d (h .said) in let k = b .end in let z : _≡_ {A = ℕ} 0 1 = cc in absurd (omega arith)
+      go (refused r) d =
+          let b : BadLayout r (t .end) = subst (λ (z : Outcome Rows). LayoutAs z t froms nodes branches names loads) d (h .said) in
+          let k = b .ends in
+          let w : b .line ≡ n = cc in
+          d ∙ ap refused (b .refusal ∙ ap Layout w)

@@ -12,7 +12,7 @@ use Rattle.text.specs.Lines.{Placed, Row, listed, nth, row, text, wordOf}
 use Rattle.text.specs.declared.lines.Next.{Next}
 use Rattle.text.specs.declared.lines.Next.the-variants.{Behind, Bad}
 use Rattle.feeder.specs.Layout.{Rows, branchRow, branchTable, emptyLine, fileEnd, kindWords, loadRow, loadTable, loadWords, phaseWords, phasesWords, rows}
-use Rattle.feeder.specs.Network.{kept, noBranchRow, noLoadRow}
+use Rattle.arrays.specs.Arrays.{branchNumbers, branchRows, fromNames, loadNames as loadNodes, loadNumbers, loadRows, toNames}
 use Rattle.feeder.specs.declared.BranchRow.{BranchRow}
 use Rattle.feeder.specs.declared.Kind.{Kind}
 use Rattle.feeder.specs.declared.LoadKind.{LoadKind}
@@ -24,7 +24,9 @@ use Rattle.tables.specs.declared.LayoutEnd.the-variants.{Good, Bad as Ba
 use Rattle.tables.specs.declared.TableEnd.{TableEnd}
 use Rattle.tables.specs.declared.TableEnd.the-variants.{At as Ends, Bad as Fails}
 use Rattle.tables.specs.declared.Tables.{Tables}
+use Rattle.tables.specs.declared.branches.BranchRead.{BranchRead}
 use Rattle.tables.specs.declared.branches.BranchTable.{BranchTable}
+use Rattle.tables.specs.declared.loads.LoadRead.{LoadRead}
 use Rattle.tables.specs.declared.loads.LoadTable.{LoadTable}
 use Rattle.tables.specs.declared.words.KindWord.{KindWord}
 use Rattle.tables.specs.declared.words.KindWord.the-variants.{Listed as ListedKind, NotListed as NoKind}
@@ -69,16 +71,36 @@ loadOf r x next = do
   kind ← listed r (wordOf x 2) loadWords
   good (record { node = wordOf x 0; phase = phase; kind = kind; vn = nth (x .values) 1; s = record { re = nth (x .values) 2; im = nth (x .values) 3 } }, next)
 
--- ---- a table: what its reader holds of the rows l, their count and those that find a place
-pub record Held {X : Type 0} (d : X) (room : ℕ) (l : List X) (count : ℕ) (cells : List X) : Type 0 where
-  pub counted : count ≡ length l
-  pub stored : cells ≡ kept d room l
+-- what a row's reader answers: the place behind the row, its names, and its numbers before its node has one
+pub record BranchIs (o : Refusal → Outcome (Placed BranchRow)) (t : BranchRead) : Type 0 where
+  pub row : BranchRow
+  pub outcome : (refusal : Refusal) → o refusal ≡ rowRead refusal (t .end) row
+  pub from : t .from ≡ row .from
+  pub to : t .to ≡ row .to
+  pub numbers : t .numbers ≡ branchNumbers 0 row
 
--- o is the table with these rows, the place p behind it
-pub record Whole {X Y : Type 0} (d : X) (room : ℕ) (made : List X → ℕ → Y) (o : Outcome Y) (p count : ℕ) (cells : List X) : Type 0 where
+pub record LoadIs (o : Refusal → Outcome (Placed LoadRow)) (t : LoadRead) : Type 0 where
+  pub row : LoadRow
+  pub outcome : (refusal : Refusal) → o refusal ≡ rowRead refusal (t .end) row
+  pub node : t .node ≡ row .node
+  pub numbers : t .numbers ≡ loadNumbers 0 row
+
+-- ---- a table: what the arrays hold of its rows
+pub record BranchesHeld (source : ℕ) (froms nodes : List ℕ) (branches : List (List ℤ)) (l : List BranchRow) : Type 0 where
+  pub froms-held : froms ≡ fromNames l
+  pub nodes-held : nodes ≡ toNames source l
+  pub branches-held : branches ≡ branchRows l
+
+pub record LoadsHeld (names : List ℕ) (loads : List (List ℤ)) (l : List LoadRow) : Type 0 where
+  pub names-held : names ≡ loadNodes l
+  pub loads-held : loads ≡ loadRows l
+
+-- o is the table with these rows, which are counted and held, the place p behind it
+pub record Whole {X Y : Type 0} (holds : List X → Type 0) (made : List X → ℕ → Y) (o : Outcome Y) (p count : ℕ) : Type 0 where
   pub list : List X
   pub whole : o ≡ good (made list p)
-  pub held : Held d room list count cells
+  pub counted : count ≡ length list
+  pub held : holds list
 
 -- the source table's answer as an outcome
 abbrev pub sourceRead : TableEnd → ℕ → List ℤ → Outcome (Placed Row)
@@ -86,15 +108,18 @@ sourceRead (Ends p) name given = good (record { words = name ∷ []; values = gi
 sourceRead (Fails n) name given = refused (Layout n)
 
 -- by cases of the answer: the place behind the table o, or the line with which o is refused
-abbrev pub TableRead : {X Y : Type 0} → X → ℕ → (List X → ℕ → Y) → Outcome Y → TableEnd → ℕ → List X → Type 0
-TableRead d room made o (Ends p) count cells = Whole d room made o p count cells
-TableRead d room made o (Fails n) count cells = o ≡ refused (Layout n)
+abbrev pub TableAs : {X Y : Type 0} → (List X → Type 0) → (List X → ℕ → Y) → Outcome Y → TableEnd → ℕ → Type 0
+TableAs holds made o (Ends p) count = Whole holds made o p count
+TableAs holds made o (Fails n) count = o ≡ refused (Layout n)
 
-abbrev pub BranchesRead : Outcome (Placed (List BranchRow)) → BranchTable → Type 0
-BranchesRead o t = TableRead noBranchRow 200 (λ l p. (l, p)) o (t .end) (t .count) (t .rows)
+pub record TableRead {X Y : Type 0} (holds : List X → Type 0) (made : List X → ℕ → Y) (o : Outcome Y) (end : TableEnd) (count : ℕ) : Type 0 where
+  pub said : TableAs holds made o end count
 
-abbrev pub LoadsRead : Outcome (List LoadRow) → LoadTable → Type 0
-LoadsRead o t = TableRead noLoadRow 300 (λ l p. l) o (t .end) (t .count) (t .rows)
+abbrev pub BranchesRead : Outcome (Placed (List BranchRow)) → BranchTable → ℕ → List ℕ → List ℕ → List (List ℤ) → Type 0
+BranchesRead o t source froms nodes branches = TableRead (BranchesHeld source froms nodes branches) (λ l p. (l, p)) o (t .end) (t .count)
+
+abbrev pub LoadsRead : Outcome (List LoadRow) → LoadTable → List ℕ → List (List ℤ) → Type 0
+LoadsRead o t names loads = TableRead (LoadsHeld names loads) (λ l p. l) o (t .end) (t .count)
 
 -- the tables' lines of names, and the branch table and the load table from the first row on
 abbrev pub sourceNames : String
@@ -131,19 +156,28 @@ restOf source given s = do
   loads ← loadTable (length branches + 6) (drop p s)
   good (record { source = source; given = given; branches = branches; loads = loads })
 
-pub record GoodLayout (r : Rows) (t : Tables) : Type 0 where
+-- the five arrays: the names of the from-nodes and of the nodes, the branches, the names of the loads' nodes, the loads
+pub record GoodLayout (r : Rows) (t : Tables) (from-names node-names : List ℕ) (branch-rows : List (List ℤ)) (load-names : List ℕ) (load-rows : List (List ℤ)) : Type 0 where
   pub end : t .end ≡ Good
   pub source : t .source ≡ r .source
   pub given : t .given ≡ r .given
   pub eight : length (r .given) ≡ 8
-  pub branches : Held noBranchRow 200 (r .branches) (t .rows) (t .branches)
-  pub loads : Held noLoadRow 300 (r .loads) (t .count) (t .loads)
+  pub rows : t .rows ≡ length (r .branches)
+  pub count : t .count ≡ length (r .loads)
+  pub froms : from-names ≡ fromNames (r .branches)
+  pub nodes : node-names ≡ toNames (r .source) (r .branches)
+  pub branches : branch-rows ≡ branchRows (r .branches)
+  pub names : load-names ≡ loadNodes (r .loads)
+  pub loads : load-rows ≡ loadRows (r .loads)
 
 pub record BadLayout (r : Refusal) (end : LayoutEnd) : Type 0 where
   pub line : ℕ
   pub refusal : r ≡ Layout line
   pub ends : end ≡ BadLine line
 
-abbrev pub LayoutRead : Outcome Rows → Tables → Type 0
-LayoutRead (good r) t = GoodLayout r t
-LayoutRead (refused r) t = BadLayout r (t .end)
+abbrev pub LayoutAs : Outcome Rows → Tables → List ℕ → List ℕ → List (List ℤ) → List ℕ → List (List ℤ) → Type 0
+LayoutAs (good r) t froms nodes branches names loads = GoodLayout r t froms nodes branches names loads
+LayoutAs (refused r) t froms nodes branches names loads = BadLayout r (t .end)
+
+pub record LayoutRead (o : Outcome Rows) (t : Tables) (froms nodes : List ℕ) (branches : List (List ℤ)) (names : List ℕ) (loads : List (List ℤ)) : Type 0 where
+  pub said : LayoutAs o t froms nodes branches names loads

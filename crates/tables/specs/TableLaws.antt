@@ -1,14 +1,12 @@
--- A table's rows, read one after the other into an array. Assumes nothing.
-use mathlib.Core.Bool.{Bool, cond, false, true}
+-- A table's rows, read one after the other. Assumes nothing.
+use mathlib.Core.Bool.{Bool, false, true}
 use mathlib.Core.List.{List, [], _++_, _∷_, append-assoc, append-nil}
 use mathlib.Core.Path.{_≡_, ap, refl, sym, _∙_}
 use Prim.Native.Nat.{_+_, _-_, _<_, _≤_, suc, zero, ℕ}
 use Prim.Native.String.{String}
 use native.Mathlib.Nat.{add-zero, not-suc-le-zero, sub-zero, zero-add}
 use native.Mathlib.Omega.{arith}
-use lib.Dec.{ltb}
-use lib.ListN.{drop, length, length-append, replicate, set}
-use borrow.Author.Tests.{ltb-false, ltb-true}
+use lib.ListN.{drop, length, length-append}
 use Rattle.answers.specs.Answers.{Outcome, _>>=_, good, refused}
 use Rattle.answers.specs.declared.Refusal.{Refusal}
 use Rattle.answers.specs.declared.Refusal.the-variants.{Layout}
@@ -17,12 +15,10 @@ use Rattle.text.specs.Text.{begins, bytes}
 use Rattle.text.specs.declared.lines.Next.{Next}
 use Rattle.text.specs.declared.lines.Next.the-variants.{Behind, Bad}
 use Rattle.feeder.specs.Layout.{branchRow, branchTable, emptyLine, fileEnd, loadRow, loadTable, rows, sourceTable}
-use Rattle.feeder.specs.Network.{kept}
-use Rattle.feeder.specs.NetworkLaws.{kept-full, kept-next}
 use Rattle.feeder.specs.declared.BranchRow.{BranchRow}
 use Rattle.feeder.specs.declared.LoadRow.{LoadRow}
 use Rattle.text.specs.LineLaws.{text-missing, text-stands}
-use Rattle.tables.specs.Read.{Held, branchNames, branchesFrom, loadNames, loadsFrom, rowRead, sourceFrom, sourceNames}
+use Rattle.tables.specs.Read.{branchNames, branchesFrom, loadNames, loadsFrom, rowRead, sourceFrom, sourceNames}
 
 -- ---- the rows read so far, in front of those that come
 abbrev pub behind : {X : Type 0} → List X → Outcome (Placed (List X)) → Outcome (Placed (List X))
@@ -36,20 +32,6 @@ behind-none (refused r) = refl
 behind-cons : {X : Type 0} (l : List X) (x : X) (o : Outcome (Placed (List X))) → behind l (o >>= λ y. good (x ∷ y .0, y .1)) ≡ behind (l ++ (x ∷ [])) o
 behind-cons l x (good y) = ap (λ (m : List _). good (m, y .1)) (sym (append-assoc l (x ∷ []) (y .0)))
 behind-cons l x (refused r) = refl
-
--- ---- the array: nothing at first, and one row more, which is kept where it finds a place
-kept-start : {X : Type 0} (d : X) (n : ℕ) → replicate n d ≡ kept d n []
-unfolding kept
-kept-start d zero = refl
-kept-start d (suc n) = ap (λ (l : List _). d ∷ l) (kept-start d n)
-
-kept-turn : {X : Type 0} (d : X) (room : ℕ) (l : List X) (x : X) (n : ℕ) (cells : List X) → n ≡ length l → cells ≡ kept d room l →
-    cond (ltb n room) (set cells n x) cells ≡ kept d room (l ++ (x ∷ []))
-kept-turn d room l x n cells c s = pick (ltb n room) refl
-  where
-    pick : (t : Bool) → ltb n room ≡ t → cond t (set cells n x) cells ≡ kept d room (l ++ (x ∷ []))
-    pick true e = let h = ltb-true n room e in simp (s, c) (kept-next d room l x (omega arith))
-    pick false e = let h = ltb-false n room e in s ∙ sym (kept-full d room l x (omega arith))
 
 module _ {X : Type 0} (read : Refusal → List ℕ → ℕ → Outcome (Placed X)) (over : ℕ → Bool) where
   -- ---- one turn of `rows`
@@ -71,27 +53,27 @@ module _ {X : Type 0} (read : Refusal → List ℕ → ℕ → Outcome (Placed X
       let m : suc f - 1 ≡ f = omega arith in
       simp (e, k, m)
 
--- ---- the loop: n rows have been read from the place `from` on, which stands in a line, and the next row is due at the place `at`
-pub record Going {X : Type 0} (read : Refusal → List ℕ → ℕ → Outcome (Placed X)) (over : ℕ → Bool) (d : X) (room : ℕ) (s : List ℕ) (line from at n : ℕ) (cells : List X) : Type 0 where
+-- ---- the loop: n rows have been read from the place `from` on, which stands in a line, the arrays hold them, and the next row is due at the place `at`
+pub record Going {X : Type 0} (read : Refusal → List ℕ → ℕ → Outcome (Placed X)) (over : ℕ → Bool) (holds : List X → Type 0) (s : List ℕ) (line from at n : ℕ) : Type 0 where
   pub so-far : List X
   pub whole : rows read (length s) s line from over ≡ behind so-far (rows read (length s - n) s (line + n) at over)
   pub counted : n ≡ length so-far
-  pub stored : cells ≡ kept d room so-far
+  pub held : holds so-far
   pub ahead : n + from ≤ at
   pub inside : at ≤ length s
 
-module _ {X : Type 0} {read : Refusal → List ℕ → ℕ → Outcome (Placed X)} {over : ℕ → Bool} {d : X} {room : ℕ} {s : List ℕ} {line from : ℕ} where
-  pub going-start : (x : X) → x ≡ d → from ≤ length s → Going read over d room s line from from 0 (replicate room x)
-  going-start x e h = record {
+module _ {X : Type 0} {read : Refusal → List ℕ → ℕ → Outcome (Placed X)} {over : ℕ → Bool} {s : List ℕ} {line from : ℕ} where
+  pub going-start : {holds : List X → Type 0} → holds [] → from ≤ length s → Going read over holds s line from from 0
+  going-start e h = record {
     so-far = [];
     whole = simp (sub-zero, add-zero) (sym (behind-none _));
     counted = refl;
-    stored = ap (replicate room) e ∙ kept-start d room;
+    held = e;
     ahead = omega arith;
     inside = h;
   }
 
-  module _ {at n : ℕ} {cells : List X} (g : Going read over d room s line from at n cells) where
+  module _ {at n : ℕ} {holds : List X → Type 0} (g : Going read over holds s line from at n) where
     pub going-over : over at ≡ true → rows read (length s) s line from over ≡ good (g .so-far, at)
     going-over e = g .whole ∙ simp (rows-over read over (length s - n) s (line + n) at e, append-nil)
 
@@ -99,23 +81,19 @@ module _ {X : Type 0} {read : Refusal → List ℕ → ℕ → Outcome (Placed X
       pub going-bad : end ≡ Bad → rows read (length s) s line from over ≡ refused (Layout (line + n))
       going-bad b = g .whole ∙ simp (rows-bad read over (length s - n) s (line + n) at (Layout (line + n)) (omega arith) e (k ∙ ap (λ (z : Next). rowRead (Layout (line + n)) z x) b))
 
-      pub going-next : (next : ℕ) → end ≡ Behind next → (at < next) × (next ≤ length s) → (now : List X) → now ≡ cond (ltb n room) (set cells n x) cells →
-          Going read over d room s line from next (n + 1) now
-      going-next next b p now c =
+      pub going-next : (next : ℕ) → end ≡ Behind next → (at < next) × (next ≤ length s) → (holds-now : List X → Type 0) → holds-now (g .so-far ++ (x ∷ [])) →
+          Going read over holds-now s line from next (n + 1)
+      going-next next b p holds-now h =
           let f : length s - n - 1 ≡ length s - (n + 1) = omega arith in
           let m : line + n + 1 ≡ line + (n + 1) = omega arith in
           record {
             so-far = g .so-far ++ (x ∷ []);
             whole = g .whole ∙ simp (rows-next read over (length s - n) s (line + n) at x next (omega arith) e (k ∙ ap (λ (z : Next). rowRead (Layout (line + n)) z x) b), f, m) (behind-cons (g .so-far) x (rows read (length s - (n + 1)) s (line + (n + 1)) next over));
             counted = simp length-append (omega arith);
-            stored = c ∙ kept-turn d room (g .so-far) x n cells (g .counted) (g .stored);
+            held = h;
             ahead = omega arith;
             inside = p .1;
           }
-
-    -- the rows that are held
-    pub going-held : Held d room (g .so-far) n cells
-    going-held = record { counted = g .counted; stored = g .stored }
 
 -- ---- the tables by their parts: the line of names, the rows, and the empty line behind the branches
 module _ {Y : Type 0} (r : Refusal) (w : String) (s : List ℕ) (k : ℕ → Outcome Y) where

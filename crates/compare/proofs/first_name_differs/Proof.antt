@@ -1,6 +1,7 @@
 -- `compare::first_name_differs` meets its contract: the line of the node rows, or else that of the branch rows. Assumes nothing.
 use mathlib.Core.Path.{_∙_, ap, sym}
 use borrow.Author.Needs.{needs}
+use Rattle.arrays.specs.Arrays.{branchesOf}
 use Rattle.answers.specs.declared.Found.{Found}
 use Rattle.feeder.specs.Feeder.{orElse}
 use Rattle.compare.specs.Compare.{namesDiffer, rowScan}
@@ -25,14 +26,14 @@ unfolding orElse
 returns c = λ f g x t h w r n b p q o.
     let s = c .before .before .before .before in
     let a = s .args in
-    sym (ap (λ (y : Found). orElse y (rowScan (namesDiffer (a .nodes) (a .branches) (a .froms) (a .tos)) (a .rows))) (sym (c .before .before .before .first-node-name .ensures) ∙ c .before .found .given .1)) ∙ names-tied f g x t h w (a .rows) r (a .branches) b (a .nodes) (a .names) (a .froms) (a .tos) n p q o (s .pre .1)
+    sym (ap (λ (y : Found). orElse y (rowScan (namesDiffer (a .nodes .now) (branchesOf (a .branches .now)) (a .froms .now) (a .tos .now)) (a .rows))) (sym (c .before .before .before .first-node-name .ensures) ∙ c .before .found .given .1)) ∙ names-tied f g x t h w (a .rows) r (branchesOf (a .branches .now)) b (a .nodes .now) (a .names .now) (a .froms .now) (a .tos .now) n p q o (s .pre .1)
 
 returns-2 : tie.Need-returns-2
 unfolding orElse
 returns-2 c = λ f g x t h w r n b p q o.
     let s = c .before .before .before .before in
     let a = s .args in
-    c .first-branch-name .ensures ∙ sym (ap (λ (y : Found). orElse y (rowScan (namesDiffer (a .nodes) (a .branches) (a .froms) (a .tos)) (a .rows))) (sym (c .before .before .before .first-node-name .ensures) ∙ c .before .enum-told .given .1)) ∙ names-tied f g x t h w (a .rows) r (a .branches) b (a .nodes) (a .names) (a .froms) (a .tos) n p q o (s .pre .1)
+    c .first-branch-name .ensures ∙ sym (ap (λ (y : Found). orElse y (rowScan (namesDiffer (a .nodes .now) (branchesOf (a .branches .now)) (a .froms .now) (a .tos .now)) (a .rows))) (sym (c .before .before .before .first-node-name .ensures) ∙ c .before .enum-told .given .1)) ∙ names-tied f g x t h w (a .rows) r (branchesOf (a .branches .now)) b (a .nodes .now) (a .names .now) (a .froms .now) (a .tos .now) n p q o (s .pre .1)
 
 pub first-name-differs-spec : {M : Type 1} → statement M
 first-name-differs-spec =

@@ -4,6 +4,7 @@ use mathlib.Core.Path.{_∙_, _≡_, ap, sym}
 use native.Mathlib.Omega.{arith}
 use borrow.Author.Needs.{needs}
 use borrow.Author.Tests.{not-false, not-true}
+use Rattle.arrays.specs.Arrays.{pairsOf}
 use Rattle.integers.specs.Pairs.{same}
 use Rattle.integers.specs.declared.Pair.{Pair}
 use Rattle.report_reader.specs.Read.{pairFrom}
@@ -17,7 +18,7 @@ losses-same-requires c κs = search needs
 returns : tie.Need-returns
 returns c = λ f x t v i w r e d m p q o.
     let a = c .before .before .args in
-    sym (ap (λ (y : Bool). not (y && (same (pairFrom (a .totals) 1) (a .source) && (same (pairFrom (a .totals) 3) (a .drawn) && same (pairFrom (a .totals) 5) (a .lost))))) (sym (c .before .losses-same .ensures) ∙ not-true _ (c .if1 .taken))) ∙ totals-tied f x t w (a .rows) (omega arith) r v i (a .losses) (a .worked) (a .totals) (a .source) (a .drawn) (a .lost) e d m p q o
+    sym (ap (λ (y : Bool). not (y && (same (pairFrom (a .totals .now) 1) (a .source) && (same (pairFrom (a .totals .now) 3) (a .drawn) && same (pairFrom (a .totals .now) 5) (a .lost))))) (sym (c .before .losses-same .ensures) ∙ not-true _ (c .if1 .taken))) ∙ totals-tied f x t w (a .rows) (omega arith) r v i (pairsOf (a .losses .now)) (pairsOf (a .worked .now)) (a .totals .now) (a .source) (a .drawn) (a .lost) e d m p q o
 
 pair-from-requires : tie.Need-pair-from-requires
 pair-from-requires c κs = search needs
@@ -43,8 +44,8 @@ all-of-requires c κs = search needs
 returns-2 : tie.Need-returns-2
 returns-2 c = λ f x t v i w r e d m p q o.
     let a = c .before .before .before .before .before .before .before .before .before .args in
-    let sums : c .all-of .result ≡ (same (pairFrom (a .totals) 1) (a .source) && (same (pairFrom (a .totals) 3) (a .drawn) && same (pairFrom (a .totals) 5) (a .lost))) = c .all-of .ensures ∙ (λ j. (c .before .before .before .same-pair .ensures ∙ ap (λ (u : Pair). same u (a .source)) (c .before .before .before .before .before .before .pair-from .ensures)) j && ((c .before .before .same-pair2 .ensures ∙ ap (λ (u : Pair). same u (a .drawn)) (c .before .before .before .before .before .pair-from2 .ensures)) j && (c .before .same-pair3 .ensures ∙ ap (λ (u : Pair). same u (a .lost)) (c .before .before .before .before .pair-from3 .ensures)) j)) in
-    ap not sums ∙ sym (ap (λ (y : Bool). not (y && (same (pairFrom (a .totals) 1) (a .source) && (same (pairFrom (a .totals) 3) (a .drawn) && same (pairFrom (a .totals) 5) (a .lost))))) (sym (c .before .before .before .before .before .before .before .before .losses-same .ensures) ∙ not-false _ (c .before .before .before .before .before .before .before .if1 .left))) ∙ totals-tied f x t w (a .rows) (omega arith) r v i (a .losses) (a .worked) (a .totals) (a .source) (a .drawn) (a .lost) e d m p q o
+    let sums : c .all-of .result ≡ (same (pairFrom (a .totals .now) 1) (a .source) && (same (pairFrom (a .totals .now) 3) (a .drawn) && same (pairFrom (a .totals .now) 5) (a .lost))) = c .all-of .ensures ∙ (λ j. (c .before .before .before .same-pair .ensures ∙ ap (λ (u : Pair). same u (a .source)) (c .before .before .before .before .before .before .pair-from .ensures)) j && ((c .before .before .same-pair2 .ensures ∙ ap (λ (u : Pair). same u (a .drawn)) (c .before .before .before .before .before .pair-from2 .ensures)) j && (c .before .same-pair3 .ensures ∙ ap (λ (u : Pair). same u (a .lost)) (c .before .before .before .before .pair-from3 .ensures)) j)) in
+    ap not sums ∙ sym (ap (λ (y : Bool). not (y && (same (pairFrom (a .totals .now) 1) (a .source) && (same (pairFrom (a .totals .now) 3) (a .drawn) && same (pairFrom (a .totals .now) 5) (a .lost))))) (sym (c .before .before .before .before .before .before .before .before .losses-same .ensures) ∙ not-false _ (c .before .before .before .before .before .before .before .if1 .left))) ∙ totals-tied f x t w (a .rows) (omega arith) r v i (pairsOf (a .losses .now)) (pairsOf (a .worked .now)) (a .totals .now) (a .source) (a .drawn) (a .lost) e d m p q o
 
 pub totals-differ-spec : {M : Type 1} → statement M
 totals-differ-spec =

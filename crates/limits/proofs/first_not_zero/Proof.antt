@@ -1,47 +1,50 @@
 -- `limits::first_not_zero` meets its contract: the rows are tested one after the other. Assumes nothing.
 use mathlib.Core.Bool.{not}
-use mathlib.Core.Path.{_≡_, ap, sym, _∙_}
-use Prim.Native.Nat.{_+_, _-_}
+use mathlib.Core.List.{List}
+use mathlib.Core.Path.{_≡_, _∙_, ap, sym}
+use Prim.Native.Nat.{_+_, _-_, _≤_, ℕ}
 use native.Mathlib.Omega.{arith}
-use lib.ListN.{getD}
+use lib.ListN.{getD, length}
 use borrow.Author.Needs.{needs}
+use Rattle.arrays.specs.Arrays.{numberedBranches}
+use Rattle.feeder.specs.Feeder.{placeOf}
 use Rattle.feeder.specs.Network.{noBranchRow}
-use Rattle.limits.specs.FirstRow.{Passed, found-none, found-row, notZeroRow, pass-none, pass-row, unread}
+use Rattle.feeder.specs.declared.BranchRow.{BranchRow}
+use Rattle.limits.specs.FirstRow.{Passed, found-none, found-row, notZeroRow, pass-none, pass-row, zeros-kept}
 use Rattle.limits.proofs.first_not_zero.Statement.{statement}
 use Rattle.limits.proofs.first_not_zero.Tie as tie
 
 abbrev Inv-loop : tie.InvT-loop
-Inv-loop count rows k₀ k = Passed notZeroRow 4 noBranchRow 200 rows count k
+Inv-loop branches count k₀ k = (nodes : List ℕ) → Passed notZeroRow 4 (λ (bs : List BranchRow). branches ≡ numberedBranches nodes bs) count k
 
 abbrev μ-loop : tie.MeasureT-loop
-μ-loop count rows k₀ k = (count + 1) - k
+μ-loop branches count k₀ k = (count + 1) - k
 
 abbrev head : tie.After-zeros-hold Inv-loop μ-loop → tie.At-loop Inv-loop μ-loop
-head c = c .before .before .before .before .before
+head c = c .before .before .before .before
 
-fault : (c : tie.After-zeros-hold Inv-loop μ-loop) → notZeroRow (head c .loop .k) (getD (head c .before .args .t1) (head c .loop .k - 1) unread) ≡ not (c .zeros-hold .result)
-fault c = ap not (sym (c .zeros-hold .ensures))
+fault : (c : tie.After-zeros-hold Inv-loop μ-loop) (nodes : List ℕ) (bs : List BranchRow) → head c .before .args .branches .now ≡ numberedBranches nodes bs → head c .loop .k ≤ length bs
+    → notZeroRow (head c .loop .k) (getD bs (head c .loop .k - 1) noBranchRow) ≡ not (c .zeros-hold .result)
+fault c nodes bs e q =
+    ap not (zeros-kept (head c .loop .inv nodes .from) (λ b. placeOf (b .from) nodes) bs e (omega arith) q ∙ sym (c .zeros-hold .ensures))
 
 loop-holds : tie.Need-loop-holds Inv-loop μ-loop
-loop-holds c = pass-none _ _ _ _ _ _
+loop-holds c = λ nodes. pass-none _ _ _ _
 
-sub-b : tie.Need-sub-b Inv-loop μ-loop
-sub-b c = omega arith
+mul-n : tie.Need-mul-n Inv-loop μ-loop
+mul-n c = search needs
 
-mul-b : tie.Need-mul-b Inv-loop μ-loop
-mul-b c = search needs
-
-array-copy-out-b : tie.Need-array-copy-out-b Inv-loop μ-loop
-array-copy-out-b c = omega arith
+element-copy-out-n : tie.Need-element-copy-out-n Inv-loop μ-loop
+element-copy-out-n c = omega arith
 
 zeros-hold-requires : tie.Need-zeros-hold-requires Inv-loop μ-loop
 zeros-hold-requires c κs = search needs
 
-add-t16 : tie.Need-add-t16 Inv-loop μ-loop
-add-t16 c = omega arith
+add-t12 : tie.Need-add-t12 Inv-loop μ-loop
+add-t12 c = omega arith
 
 returns : tie.Need-returns Inv-loop μ-loop
-returns c = found-row (head (c .before) .loop .inv) unread (omega arith) (omega arith) (fault (c .before) ∙ c .if1 .taken)
+returns c = λ nodes. found-row (head (c .before) .loop .inv nodes) noBranchRow (omega arith) (λ bs e q. fault (c .before) nodes bs e q ∙ c .if1 .taken)
 
 add-k : tie.Need-add-k Inv-loop μ-loop
 add-k c = omega arith
@@ -50,10 +53,10 @@ loop-less : tie.Need-loop-less Inv-loop μ-loop
 loop-less c = omega arith
 
 loop-again : tie.Need-loop-again Inv-loop μ-loop
-loop-again c = pass-row (head (c .before) .loop .inv) unread (omega arith) (omega arith) (fault (c .before) ∙ c .if1 .left)
+loop-again c = λ nodes. pass-row (head (c .before) .loop .inv nodes) noBranchRow (omega arith) (λ bs e q. fault (c .before) nodes bs e q ∙ c .if1 .left)
 
 returns-2 : tie.Need-returns-2 Inv-loop μ-loop
-returns-2 c = found-none (c .before .loop .inv) (omega arith)
+returns-2 c = λ nodes. found-none (c .before .loop .inv nodes) (omega arith)
 
 pub first-not-zero-spec : {M : Type 1} → statement M
 first-not-zero-spec =
@@ -62,11 +65,10 @@ first-not-zero-spec =
     Inv-loop
     μ-loop
     loop-holds
-    sub-b
-    mul-b
-    array-copy-out-b
+    mul-n
+    element-copy-out-n
     zeros-hold-requires
-    add-t16
+    add-t12
     returns
     add-k
     loop-less

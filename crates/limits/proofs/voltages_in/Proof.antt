@@ -15,7 +15,7 @@ use Rattle.limits.proofs.voltages_in.Statement.{statement}
 use Rattle.limits.proofs.voltages_in.Tie as tie
 
 abbrev Inv-loop : tie.InvT-loop
-Inv-loop given j₀ j = Held (voltageAt given) 6 j
+Inv-loop given j₀ j = Held (voltageAt given) 1 6 j
 
 abbrev μ-loop : tie.MeasureT-loop
 μ-loop given j₀ j = 7 - j
@@ -33,7 +33,7 @@ six : (c : tie.Start Inv-loop μ-loop) → all (inside 2000000) (take 6 (c .args
 six c = let e : length (c .args .t1) ≡ 8 = search needs in all-take (inside 2000000) (pos 0) (c .args .t1) 6 (omega arith)
 
 loop-holds : tie.Need-loop-holds Inv-loop μ-loop
-loop-holds c = hold-none _ 6
+loop-holds c = hold-none _ 1 6
 
 sub-z : tie.Need-sub-z Inv-loop μ-loop
 sub-z c = omega arith

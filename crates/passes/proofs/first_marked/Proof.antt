@@ -1,11 +1,12 @@
 -- `passes::first_marked` meets its contract: no node passed is marked below one that is not. Assumes nothing.
-use Prim.Native.Nat.{_+_, _-_, _<_, ℕ}
+use Prim.Native.Nat.{_+_, _-_, _<_, _≤_, ℕ}
 use borrow.Author.Count.{below-more}
 use mathlib.Core.Bool.{_&&_, Bool, false, not}
 use mathlib.Core.Logic.{⊎-elim}
 use mathlib.Core.List.{List}
-use mathlib.Core.Path.{_≡_, ap, ap₂, sym}
+use mathlib.Core.Path.{_∙_, _≡_, ap, ap₂, sym}
 use lib.ListN.{getD}
+use Rattle.arrays.specs.Arrays.{branchesOf}
 use Rattle.feeder.specs.RowLaws.{none-nodes}
 use Rattle.feeder.specs.declared.Branch.{Branch}
 use Rattle.passes.specs.Nodes.{first-node}
@@ -20,12 +21,15 @@ abbrev bad : List Branch → List Bool → ℕ → Bool
 bad branches off k = getD off k false && not (getD off (parentIn branches k) false)
 
 abbrev Inv-loop : tie.InvT-loop
-Inv-loop rows branches off k₀ k = (0 < k) × ((j : ℕ) → j < k → bad branches off j ≡ false)
+Inv-loop branches rows off k₀ k = (0 < k) × ((j : ℕ) → j < k → bad (branchesOf branches) off j ≡ false)
 
 abbrev μ-loop : tie.MeasureT-loop
-μ-loop rows branches off k₀ k = rows + 1 - k
+μ-loop branches rows off k₀ k = rows + 1 - k
 
-from : (c : tie.In-loop Inv-loop μ-loop) → parentIn (c .before .before .args .t1) (c .before .loop .k) < 201
+abbrev branches : tie.Start Inv-loop μ-loop → List Branch
+branches e = branchesOf (e .args .branches .now)
+
+from : (c : tie.In-loop Inv-loop μ-loop) → parentIn (branches (c .before .before)) (c .before .loop .k) ≤ 200
 from c = let l = c .before .before .pre .0 in omega (arith, l .from (c .before .loop .k) (omega arith), l .few)
 
 loop-holds : tie.Need-loop-holds Inv-loop μ-loop
@@ -34,23 +38,21 @@ loop-holds c = (omega arith, λ j q. let z : j ≡ 0 = omega arith in rw (z, c .
 array-read-if1 : tie.Need-array-read-if1 Inv-loop μ-loop
 array-read-if1 c = search needs
 
-mul-b : tie.Need-mul-b Inv-loop μ-loop
-mul-b c = search needs
-
-array-copy-out-b : tie.Need-array-copy-out-b Inv-loop μ-loop
-array-copy-out-b c = search needs
+from-at-requires : tie.Need-from-at-requires Inv-loop μ-loop
+from-at-requires c κs = search needs
 
 array-read-if2 : tie.Need-array-read-if2 Inv-loop μ-loop
-array-read-if2 c = omega (arith, from (c .before .before))
+array-read-if2 c = omega (arith, from (c .before .before), c .from-at .ensures)
 
-add-t21 : tie.Need-add-t21 Inv-loop μ-loop
-add-t21 c = search needs
+add-t15 : tie.Need-add-t15 Inv-loop μ-loop
+add-t15 c = search needs
 
 returns : tie.Need-returns Inv-loop μ-loop
 returns c =
     let l = c .before .before .before .before .loop in
     let e = c .before .before .before .before .before in
-    sym (first-node (bad (e .args .t1) (e .args .t3)) (e .args .rows) (l .k) (omega arith) (l .inv .1) (ap₂ _&&_ (c .before .before .if1 .taken) (c .if2 .taken)))
+    sym (first-node (bad (branches e) (e .args .t3)) (e .args .rows) (l .k) (omega arith) (l .inv .1)
+    (ap₂ _&&_ (c .before .before .if1 .taken) (ap (λ (m : ℕ). not (getD (e .args .t3) m false)) (sym (c .before .from-at .ensures)) ∙ c .if2 .taken)))
 
 add-k : tie.Need-add-k Inv-loop μ-loop
 add-k c = search needs
@@ -62,12 +64,12 @@ loop-again : tie.Need-loop-again Inv-loop μ-loop
 loop-again c =
     let l = c .before .before .loop in
     let e = c .before .before .before in
-    (omega arith, below-more _ _ (l .inv .1) (⊎-elim (λ z. ap₂ _&&_ (z .0 .taken) (z .2 .left)) (λ z. ap (λ (b : Bool). b && not (getD (e .args .t3) (parentIn (e .args .t1) (l .k)) false)) (z .left)) (c .if1 .came)))
+    (omega arith, below-more _ _ (l .inv .1) (⊎-elim (λ z. ap₂ _&&_ (z .0 .taken) (ap (λ (m : ℕ). not (getD (e .args .t3) m false)) (sym (z .1 .ensures)) ∙ z .2 .left)) (λ z. ap (λ (b : Bool). b && not (getD (e .args .t3) (parentIn (branches e) (l .k)) false)) (z .left)) (c .if1 .came)))
 
 returns-2 : tie.Need-returns-2 Inv-loop μ-loop
 returns-2 c =
     let e = c .before .before in
-    sym (none-nodes (bad (e .args .t1) (e .args .t3)) 1 (e .args .rows) (λ j q. c .before .loop .inv .1 j (omega arith)))
+    sym (none-nodes (bad (branches e) (e .args .t3)) 1 (e .args .rows) (λ j q. c .before .loop .inv .1 j (omega arith)))
 
 pub first-marked-spec : {M : Type 1} → statement M
 first-marked-spec =
@@ -77,10 +79,9 @@ first-marked-spec =
     μ-loop
     loop-holds
     array-read-if1
-    mul-b
-    array-copy-out-b
+    from-at-requires
     array-read-if2
-    add-t21
+    add-t15
     returns
     add-k
     loop-less

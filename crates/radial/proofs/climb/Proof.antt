@@ -2,16 +2,17 @@
 use mathlib.Core.Path.{_≡_}
 use Prim.Native.Nat.{_+_, _-_}
 use lib.ListN.{length}
-use Rattle.radial.specs.Radial.{PlacedBy, fromIn, made}
+use Rattle.arrays.specs.Arrays.{branchesOf}
+use Rattle.radial.specs.Radial.{Placed, made}
 use borrow.Author.Needs.{needs}
 use Rattle.radial.proofs.climb.Statement.{statement}
 use Rattle.radial.proofs.climb.Tie as tie
 
 abbrev Inv-loop : tie.InvT-loop
-Inv-loop from rows met₀ len₀ order₀ rank₀ node₀ met len order rank node = PlacedBy (fromIn from) rows (made len order rank) × (length met ≡ 201)
+Inv-loop branches rows placed order₀ rank₀ met₀ len₀ node₀ order rank met len node = Placed (branchesOf branches) rows (made len order rank) × (length met ≡ 201)
 
 abbrev μ-loop : tie.MeasureT-loop
-μ-loop from rows met₀ len₀ order₀ rank₀ node₀ met len order rank node = rows + 1 - node
+μ-loop branches rows placed order₀ rank₀ met₀ len₀ node₀ order rank met len node = rows + 1 - node
 
 array-write-met : tie.Need-array-write-met Inv-loop μ-loop
 array-write-met c = search needs

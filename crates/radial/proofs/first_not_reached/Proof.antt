@@ -10,10 +10,10 @@ use Rattle.radial.proofs.first_not_reached.Statement.{statement}
 use Rattle.radial.proofs.first_not_reached.Tie as tie
 
 abbrev Inv-loop : tie.InvT-loop
-Inv-loop rows rank i₀ i = (0 < i) × ((k : ℕ) → k < i → 0 < k → 0 < getD rank k 0)
+Inv-loop branches rows len order rank i₀ i = (0 < i) × ((k : ℕ) → k < i → 0 < k → 0 < getD rank k 0)
 
 abbrev μ-loop : tie.MeasureT-loop
-μ-loop rows rank i₀ i = rows + 1 - i
+μ-loop branches rows len order rank i₀ i = rows + 1 - i
 
 loop-holds : tie.Need-loop-holds Inv-loop μ-loop
 loop-holds c = search needs
@@ -21,16 +21,16 @@ loop-holds c = search needs
 mul-if1 : tie.Need-mul-if1 Inv-loop μ-loop
 mul-if1 c = search needs
 
-array-read-if1 : tie.Need-array-read-if1 Inv-loop μ-loop
-array-read-if1 c = search needs
+element-copy-out-if1 : tie.Need-element-copy-out-if1 Inv-loop μ-loop
+element-copy-out-if1 c = search needs
 
-add-t11 : tie.Need-add-t11 Inv-loop μ-loop
-add-t11 c = search needs
+add-t12 : tie.Need-add-t12 Inv-loop μ-loop
+add-t12 c = search needs
 
 returns : tie.Need-returns Inv-loop μ-loop
 returns c =
-    let l = c .before .before in
-    sym (first-unranked _ _ _ (l .before .before .pre) (l .loop .i) (l .loop .inv .0) (omega arith) (l .loop .inv .1) (c .if1 .taken))
+    let l = c .before .before .before in
+    sym (first-unranked _ _ _ (l .before .pre) (l .loop .i) (l .loop .inv .0) (omega arith) (l .loop .inv .1) (c .if1 .taken))
 
 add-i : tie.Need-add-i Inv-loop μ-loop
 add-i c = search needs
@@ -39,10 +39,10 @@ loop-less : tie.Need-loop-less Inv-loop μ-loop
 loop-less c = search needs
 
 loop-again : tie.Need-loop-again Inv-loop μ-loop
-loop-again c = (search needs, below-more _ _ (c .before .before .loop .inv .1) (λ p. omega (arith, c .if1 .left)))
+loop-again c = (search needs, below-more _ _ (c .before .before .before .loop .inv .1) (λ p. omega (arith, c .if1 .left)))
 
 returns-2 : tie.Need-returns-2 Inv-loop μ-loop
-returns-2 c = sym (none-unranked _ _ _ (c .before .before .before .pre) (λ j p q. c .before .loop .inv .1 j (omega arith) q))
+returns-2 c = sym (none-unranked _ _ _ (c .before .before .pre) (λ j p q. c .before .loop .inv .1 j (omega arith) q))
 
 pub first-not-reached-spec : {M : Type 1} → statement M
 first-not-reached-spec =
@@ -52,8 +52,8 @@ first-not-reached-spec =
     μ-loop
     loop-holds
     mul-if1
-    array-read-if1
-    add-t11
+    element-copy-out-if1
+    add-t12
     returns
     add-i
     loop-less

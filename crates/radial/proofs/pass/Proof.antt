@@ -1,6 +1,7 @@
 -- `radial::pass` meets its contract: the order stays one, and while none is placed, no row passed was to be placed. Assumes nothing.
 use Prim.Native.Nat.{_+_, _-_}
-use Rattle.radial.specs.Radial.{fromIn, made}
+use Rattle.arrays.specs.Arrays.{branchesOf}
+use Rattle.radial.specs.Radial.{made}
 use Rattle.radial.proofs.Placing.{Upto, row-passed}
 use borrow.Author.Needs.{needs}
 use native.Mathlib.Omega.{arith}
@@ -8,10 +9,10 @@ use Rattle.radial.proofs.pass.Statement.{statement}
 use Rattle.radial.proofs.pass.Tie as tie
 
 abbrev Inv-loop : tie.InvT-loop
-Inv-loop from rows len₀ order₀ rank₀ k₀ len order rank k = Upto (fromIn from) rows len₀ k (made len order rank)
+Inv-loop branches rows placed order₀ rank₀ len₀ k₀ order rank len k = Upto (branchesOf branches) rows placed k (made len order rank)
 
 abbrev μ-loop : tie.MeasureT-loop
-μ-loop from rows len₀ order₀ rank₀ k₀ len order rank k = rows + 1 - k
+μ-loop branches rows placed order₀ rank₀ len₀ k₀ order rank len k = rows + 1 - k
 
 loop-holds : tie.Need-loop-holds Inv-loop μ-loop
 loop-holds c = search needs

@@ -5,6 +5,7 @@ use Prim.Native.Nat.{_+_, _-_, _≤_, ℕ}
 use native.Mathlib.Omega.{arith}
 use lib.ListN.{length}
 use borrow.Rule.Slice.PartMut.{putMid}
+use Rattle.arrays.specs.Arrays.{branchesOf, pairsOf, threesOf}
 use Rattle.report_writer.specs.Left.{rest-room, written-front}
 use Rattle.report_writer.specs.Lines.{branchTable, nodeTable, totalsTable}
 use Rattle.report_writer.specs.ReportIs.{report-is, whole-length}
@@ -16,14 +17,14 @@ use Rattle.report_writer.proofs.put_report.Tie as tie
 
 -- the first two tables
 abbrev nodesDue : tie.Start → List ℕ
-nodesDue c = let a = c .args in nodeTable (nodeLineAt (a .nodes) (a .v)) (a .rows)
+nodesDue c = let a = c .args in nodeTable (nodeLineAt (a .nodes .now) (threesOf (a .v .now))) (a .rows)
 
 abbrev branchesDue : tie.Start → List ℕ
-branchesDue c = let a = c .args in branchTable (branchLineAt (a .nodes) (a .branches) (a .i) (a .losses)) (a .rows)
+branchesDue c = let a = c .args in branchTable (branchLineAt (a .nodes .now) (branchesOf (a .branches .now)) (threesOf (a .i .now)) (pairsOf (a .losses .now))) (a .rows)
 
 -- there is room for all three
 room : (c : tie.Start) → length (nodesDue c) + length (branchesDue c) + length (totalsTable (c .args .figures)) ≤ length (c .args .out .now)
-room c = let a = c .args in omega (arith, whole-length (a .nodes) (a .branches) (a .rows) (a .v) (a .i) (a .losses) (a .figures), c .pre .1)
+room c = let a = c .args in omega (arith, whole-length (a .nodes .now) (branchesOf (a .branches .now)) (a .rows) (threesOf (a .v .now)) (threesOf (a .i .now)) (pairsOf (a .losses .now)) (a .figures), c .pre .1)
 
 -- and behind the first for two
 room-two : (c : tie.After-put-nodes) → c .put-nodes .result + length (branchesDue (c .before .before .before)) + length (totalsTable (c .before .before .before .args .figures)) ≤ length (c .put-nodes .last .0)
@@ -90,7 +91,7 @@ whole : (c : tie.After-put-totals) →
     let a = c .before .before .before .before .before .before .before .before .before .before .before .args in
     let m = middle (c .before .before .before .before) in
     let l = after (c .before .before .before .before) in
-    Written (a .out .now) 0 (wholeText (a .nodes) (a .branches) (a .rows) (a .v) (a .i) (a .losses) (a .figures)) (m + c .put-totals .result) (putMid m (length l - m) l (c .put-totals .last .0))
+    Written (a .out .now) 0 (wholeText (a .nodes .now) (branchesOf (a .branches .now)) (a .rows) (threesOf (a .v .now)) (threesOf (a .i .now)) (pairsOf (a .losses .now)) (a .figures)) (m + c .put-totals .result) (putMid m (length l - m) l (c .put-totals .last .0))
 unfolding wholeText
 whole c = written-behind (c .before .before .before .before .before .before .before .before .put-nodes .ensures) (written-behind (second (c .before .before .before .before)) (third c))
 

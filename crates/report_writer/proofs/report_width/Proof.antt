@@ -4,6 +4,7 @@ use mathlib.Core.Path.{_≡_, ap, sym, _∙_}
 use Prim.Native.Nat.{_+_}
 use native.Mathlib.Omega.{arith}
 use lib.ListN.{length}
+use Rattle.arrays.specs.Arrays.{branchesOf, pairsOf, threesOf}
 use Rattle.report_writer.specs.ReportIs.{report-is, whole-length}
 use Rattle.report_writer.specs.Tables.{wholeText}
 use Rattle.report_writer.proofs.report_width.Statement.{statement}
@@ -11,8 +12,8 @@ use Rattle.report_writer.proofs.report_width.Tie as tie
 
 whole : (c : tie.After-totals-width) →
     let a = c .before .before .before .args in
-    c .before .before .nodes-width .result + c .before .branches-width .result + c .totals-width .result ≡ length (wholeText (a .nodes) (a .branches) (a .rows) (a .v) (a .i) (a .losses) (a .figures))
-whole c = let a = c .before .before .before .args in omega (arith, whole-length (a .nodes) (a .branches) (a .rows) (a .v) (a .i) (a .losses) (a .figures))
+    c .before .before .nodes-width .result + c .before .branches-width .result + c .totals-width .result ≡ length (wholeText (a .nodes .now) (branchesOf (a .branches .now)) (a .rows) (threesOf (a .v .now)) (threesOf (a .i .now)) (pairsOf (a .losses .now)) (a .figures))
+whole c = let a = c .before .before .before .args in omega (arith, whole-length (a .nodes .now) (branchesOf (a .branches .now)) (a .rows) (threesOf (a .v .now)) (threesOf (a .i .now)) (pairsOf (a .losses .now)) (a .figures))
 
 nodes-width-requires : tie.Need-nodes-width-requires
 nodes-width-requires c κs = search needs

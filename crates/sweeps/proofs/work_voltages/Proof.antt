@@ -2,13 +2,10 @@
 use Rattle.sweeps.specs.SweepsLaws.{in-arrays, ready, source-fits}
 use Rattle.sweeps.proofs.work_voltages.Statement.{statement}
 use Rattle.sweeps.proofs.work_voltages.Tie as tie
-use Rattle.sweeps.proofs.work_voltages.Reads as reads
-use Rattle.sweeps.proofs.work_voltages.Lts as lts
-use Rattle.passes.proofs.downward_pass.Reads as downward-pass-reads
 
 downward-pass-requires : tie.Need-downward-pass-requires
 downward-pass-requires c κs =
-    let s = c .before .before .before .before in
+    let s = c .before .before in
     (ready (s .pre .0), (source-fits (s .pre .0), s .pre .1))
 
 returns : tie.Need-returns

@@ -1,17 +1,17 @@
 -- `tables::read_layout` meets its contract: behind the source's table it is what the reader of the rest answers. Assumes nothing.
-use borrow.Author.Needs.{needs}
-use mathlib.Core.List.{[], _∷_}
-use mathlib.Core.Path.{_≡_, ap, subst, sym, _∙_}
-use Prim.Native.Nat.{_-_, _≤_}
 use native.Mathlib.Omega.{arith}
+use borrow.Author.Needs.{needs}
+use mathlib.Core.List.{_∷_, []}
+use mathlib.Core.Path.{_≡_, _∙_, ap, sym}
+use Prim.Native.Nat.{_-_, _≤_}
 use lib.ListN.{drop, length, take}
-use Rattle.answers.specs.Answers.{Outcome}
 use Rattle.text.specs.TextLaws.{part-from}
-use Rattle.feeder.specs.Layout.{Rows, layout}
+use Rattle.feeder.specs.Layout.{layout}
+use Rattle.tables.specs.HeldLaws.{no-branches, no-loads}
 use Rattle.tables.specs.declared.TableEnd.{TableEnd}
-use Rattle.tables.specs.LayoutLaws.{layout-source, layout-unsourced, read-bad}
+use Rattle.tables.specs.LayoutLaws.{layout-source, layout-unsourced, read-as, read-bad}
 use Rattle.tables.specs.LineLaws.{part-length}
-use Rattle.tables.specs.Read.{LayoutRead, restOf, sourceRead}
+use Rattle.tables.specs.Read.{restOf, sourceRead}
 use Rattle.tables.proofs.read_layout.Statement.{statement}
 use Rattle.tables.proofs.read_layout.Tie as tie
 
@@ -31,6 +31,9 @@ no-tables-requires c κs = search needs
 enum-known-end-2 : tie.Need-enum-known-end-2
 enum-known-end-2 c = search needs
 
+element-write-nodes : tie.Need-element-write-nodes
+element-write-nodes c = search needs
+
 sub-read-rest : tie.Need-sub-read-rest
 sub-read-rest c = omega (arith, reach (c .before))
 
@@ -41,23 +44,23 @@ part-read-rest-end : tie.Need-part-read-rest-end
 part-read-rest-end c = search needs
 
 read-rest-requires : tie.Need-read-rest-requires
-read-rest-requires c κs = search needs
+read-rest-requires c κs = let h = c .before .before .before .before .before .before .before .before .before .before .before .before .pre in (no-branches _ _ _ _ (h .0) (h .1 .0) (h .1 .1 .0), no-loads _ _ (h .1 .1 .1 .0) (h .1 .1 .1 .1))
 
 returns : tie.Need-returns
 returns c =
     let s = c .before .before .before .before .read-source in
     let e = s .ensures .0 ∙ ap (λ (z : TableEnd). sourceRead z (s .result .name) (s .result .given)) (c .before .before .end .given .1) in
-    (read-bad _ _ _ (layout-unsourced (c .before .before .before .before .before .before .args .file .now) _ e) (c .no-tables .ensures .0), omega (arith, c .no-tables .ensures .1))
+    (read-bad _ (layout-unsourced (c .before .before .before .before .before .before .args .file .now) _ e) (c .no-tables .ensures .0), omega (arith, c .no-tables .ensures .1))
 
 returns-2 : tie.Need-returns-2
 returns-2 c =
-    let a = c .before .before .before .before .before .before .before .before .args in
-    let s = c .before .before .before .before .before .before .read-source in
-    let p = c .before .before .before .before .end2 .given .0 .0 in
-    let e = s .ensures .0 ∙ ap (λ (z : TableEnd). sourceRead z (s .result .name) (s .result .given)) (c .before .before .before .before .end2 .given .1) in
+    let a = c .before .before .before .before .before .before .before .before .before .before .before .before .before .args in
+    let s = c .before .before .before .before .before .before .before .before .before .before .before .read-source in
+    let p = c .before .before .before .before .before .before .before .before .before .end2 .given .0 .0 in
+    let e = s .ensures .0 ∙ ap (λ (z : TableEnd). sourceRead z (s .result .name) (s .result .given)) (c .before .before .before .before .before .before .before .before .before .end2 .given .1) in
     let h : layout (a .file .now) ≡ restOf (s .result .name) (s .result .given) (take (length (a .file .now) - p) (drop p (a .file .now))) =
     layout-source (a .file .now) (record { words = s .result .name ∷ []; values = s .result .given }) p e ∙ ap (restOf (s .result .name) (s .result .given)) (sym (part-from (a .file .now) p)) in
-    (subst (λ (o : Outcome Rows). LayoutRead o (c .read-rest .result)) (sym h) (c .read-rest .ensures .0), omega (arith, c .read-rest .ensures .1, reach (c .before .before .before), part-length (a .file .now) p))
+    (read-as h (c .read-rest .ensures .0), omega (arith, c .read-rest .ensures .1, reach (c .before .before .before .before .before .before .before .before), part-length (a .file .now) p))
 
 pub read-layout-spec : {M : Type 1} → statement M
 read-layout-spec =
@@ -67,6 +70,7 @@ read-layout-spec =
     enum-known-end
     no-tables-requires
     enum-known-end-2
+    element-write-nodes
     sub-read-rest
     part-read-rest-start
     part-read-rest-end

@@ -1,50 +1,58 @@
--- `whole::root` meets its contract. The invariant: the square of `lo` is at most n, and that of `hi` is above it. The measure is their gap. Assumes nothing.
-use Prim.Native.Nat.{_≤_, _<_, _*_, _+_, _-_, _/_}
-use native.Mathlib.Nat.{mul-le-mul}
+-- `whole::root` meets its contract. The invariant: the guess is at least the root. The measure is the guess, since a step from one whose square is above n makes it
+-- smaller. Assumes nothing.
+use mathlib.Core.Path.{sym}
+use Prim.Native.Nat.{_≤_}
+use native.Mathlib.Nat.{div-le-self, mul-le-mul}
 use native.Mathlib.Omega.{arith}
-use mathlib.Core.Path.{_≡_}
+use borrow.Author.Needs.{needs}
+use Rattle.integers.specs.Newton.{Guess, newton-below, next-guess, square-pos}
 use Rattle.integers.specs.RootLaws.{root-is}
 use Rattle.integers.proofs.whole.root.Statement.{statement}
 use Rattle.integers.proofs.whole.root.Tie as tie
 
 abbrev Inv-loop : tie.InvT-loop
-Inv-loop n lo₀ hi₀ lo hi = (lo * lo ≤ n) × (n < hi * hi) × (lo < hi) × (hi ≤ 0x8000_0001)
+Inv-loop n m₀ m = Guess n m
 
 abbrev μ-loop : tie.MeasureT-loop
-μ-loop n lo₀ hi₀ lo hi = hi - lo
+μ-loop n m₀ m = m
+
+first-guess-requires : tie.Need-first-guess-requires Inv-loop μ-loop
+first-guess-requires c κs = search needs
 
 loop-holds : tie.Need-loop-holds Inv-loop μ-loop
-loop-holds c = omega arith
+loop-holds c = c .first-guess .ensures
 
-add-loop : tie.Need-add-loop Inv-loop μ-loop
-add-loop c = omega arith
+mul-loop : tie.Need-mul-loop Inv-loop μ-loop
+mul-loop c = let h : c .loop .m ≤ 0xffff_ffff = omega (arith, c .loop .inv .small) in record { fits = omega (arith, mul-le-mul h h) }
 
-add-mid : tie.Need-add-mid Inv-loop μ-loop
-add-mid c = omega arith
+div-m : tie.Need-div-m Inv-loop μ-loop
+div-m c = square-pos (c .before .before .before .args .n) (c .before .loop .m) (c .loop-test .taken)
 
-mul-if1 : tie.Need-mul-if1 Inv-loop μ-loop
-mul-if1 c =
-    let l = c .before .loop in
-    let h : (l .lo + l .hi) / 2 ≤ 0x8000_0001 = omega arith in
-    omega (arith, mul-le-mul h h)
+add-m : tie.Need-add-m Inv-loop μ-loop
+add-m c =
+    let s = c .before .before .before in
+    record { fits = omega (arith, c .before .loop .inv .small, div-le-self (s .args .n) (c .before .loop .m), s .pre) }
 
 loop-less : tie.Need-loop-less Inv-loop μ-loop
-loop-less c = omega arith
+loop-less c = newton-below (c .before .before .before .args .n) (c .before .loop .m) (c .loop-test .taken)
 
 loop-again : tie.Need-loop-again Inv-loop μ-loop
-loop-again c = omega arith
-
-loop-less-2 : tie.Need-loop-less-2 Inv-loop μ-loop
-loop-less-2 c = omega arith
-
-loop-again-2 : tie.Need-loop-again-2 Inv-loop μ-loop
-loop-again-2 c = omega arith
+loop-again c = next-guess (c .before .before .before .args .n) (c .before .loop .m) (c .before .loop .inv) (c .loop-test .taken)
 
 returns : tie.Need-returns Inv-loop μ-loop
-returns c =
-    let l = c .before .loop in
-    let e : l .hi ≡ l .lo + 1 = omega arith in
-    omega (arith, root-is (record { low = l .inv .0; high = rw e at (l .inv .1) }))
+returns c = sym (root-is (record { low = c .loop-test .left; high = c .before .loop .inv .enough }))
 
 pub root-spec : {M : Type 1} → statement M
-root-spec = tie.close (tie.spec Inv-loop μ-loop loop-holds add-loop add-mid mul-if1 loop-less loop-again loop-less-2 loop-again-2 returns)
+root-spec =
+    tie.close
+    (tie.spec
+    Inv-loop
+    μ-loop
+    first-guess-requires
+    loop-holds
+    mul-loop
+    div-m
+    add-m
+    loop-less
+    loop-again
+    returns)

@@ -5,7 +5,9 @@ use native.Mathlib.Omega.{arith}
 use borrow.Author.Needs.{needs}
 use lib.ListN.{take}
 use Rattle.answers.specs.declared.Found.{Found}
+use Rattle.arrays.specs.Arrays.{branchesOf, loadsOf}
 use Rattle.feeder.specs.Feeder.{firstRow, orElse}
+use Rattle.feeder.specs.NetworkLaws.{length-kept}
 use Rattle.names.specs.Numbered.{loadAbsent}
 use Rattle.names.specs.NumberedLaws.{none-past, phase-absent}
 use Rattle.names.proofs.faults.first_phase_absent.Statement.{statement}
@@ -27,14 +29,20 @@ returns : tie.Need-returns
 unfolding orElse
 returns c = λ r e n f m.
     let a = c .before .before .before .before .args in
-    sym (ap (λ (x : Found). orElse x (firstRow (loadAbsent (a .branches)) (a .count + 6) 1 (take (a .total) (a .loads)))) (sym (c .before .before .before .first-branch-absent .ensures) ∙ c .before .found .given .1)) ∙ phase-absent r (a .count) n (omega arith) (a .total) m (omega arith) (a .branches) (a .loads) e f
+    let bs = branchesOf (a .branches .now) in
+    let ls = loadsOf (a .loads .now) in
+    sym (ap (λ (x : Found). orElse x (firstRow (loadAbsent bs) (a .count + 6) 1 (take (a .total) ls))) (sym (c .before .before .before .first-branch-absent .ensures (rw (e, length-kept))) ∙ c .before .found .given .1))
+    ∙ phase-absent r (a .count) n (omega arith) (a .total) m (omega arith) bs ls e f
 
 returns-2 : tie.Need-returns-2
 unfolding orElse
 returns-2 c = λ r e n f m.
     let a = c .before .before .before .before .args in
-    c .first-load-absent .ensures (λ k h. rw e (none-past r (a .count) n (omega arith) k h))
-    ∙ sym (ap (λ (x : Found). orElse x (firstRow (loadAbsent (a .branches)) (a .count + 6) 1 (take (a .total) (a .loads)))) (sym (c .before .before .before .first-branch-absent .ensures) ∙ c .before .enum-told .given .1)) ∙ phase-absent r (a .count) n (omega arith) (a .total) m (omega arith) (a .branches) (a .loads) e f
+    let bs = branchesOf (a .branches .now) in
+    let ls = loadsOf (a .loads .now) in
+    c .first-load-absent .ensures (rw (f, length-kept)) (λ k h. rw e (none-past r (a .count) n (omega arith) k h))
+    ∙ sym (ap (λ (x : Found). orElse x (firstRow (loadAbsent bs) (a .count + 6) 1 (take (a .total) ls))) (sym (c .before .before .before .first-branch-absent .ensures (rw (e, length-kept))) ∙ c .before .enum-told .given .1))
+    ∙ phase-absent r (a .count) n (omega arith) (a .total) m (omega arith) bs ls e f
 
 pub first-phase-absent-spec : {M : Type 1} → statement M
 first-phase-absent-spec =

@@ -5,18 +5,16 @@ use native.Mathlib.Omega.{arith}
 use borrow.Author.Needs.{needs}
 use borrow.Author.Tests.{not-false, not-true}
 use Rattle.report_reader.specs.AnswerLaws.{held-answer, refused-answer}
+use Rattle.report_reader.specs.Read.{tableRead}
 use Rattle.report_reader.specs.TableLaws.{Going, going-end, going-next, going-start, going-stop}
 use Rattle.report_reader.proofs.rows.read_rows.Statement.{statement}
 use Rattle.report_reader.proofs.rows.read_rows.Tie as tie
 
 abbrev Inv-loop : tie.InvT-loop
-Inv-loop part from count branch t₀ k₀ last t k = Going branch part from count last t k
+Inv-loop part from count branch first₀ second₀ threes₀ pairs₀ t₀ k₀ last first second threes pairs t k = Going branch part from count last (tableRead t first second threes pairs) k
 
 abbrev μ-loop : tie.MeasureT-loop
-μ-loop part from count branch t₀ k₀ last t k = last - k
-
-no-rows-requires : tie.Need-no-rows-requires Inv-loop μ-loop
-no-rows-requires c κs = search needs
+μ-loop part from count branch first₀ second₀ threes₀ pairs₀ t₀ k₀ last first second threes pairs t k = last - k
 
 unused-count-requires : tie.Need-unused-count-requires Inv-loop μ-loop
 unused-count-requires c κs = search needs
@@ -25,7 +23,7 @@ add-last : tie.Need-add-last Inv-loop μ-loop
 add-last c = search needs
 
 loop-holds : tie.Need-loop-holds Inv-loop μ-loop
-loop-holds c = going-start _ _ _ _ _ _ _ (c .before .no-rows .ensures) (c .unused-count .ensures) refl (omega (arith, c .unused-count .ensures, c .before .before .before .pre .1)) (c .before .before .before .pre .0)
+loop-holds c = going-start _ _ _ _ _ _ _ _ _ _ (c .before .before .pre .1 .1) (c .unused-count .ensures) refl (omega (arith, c .unused-count .ensures, c .before .before .pre .1 .0)) (c .before .before .pre .0)
 
 read-row-requires : tie.Need-read-row-requires Inv-loop μ-loop
 read-row-requires c κs = search needs
@@ -33,29 +31,23 @@ read-row-requires c κs = search needs
 returns : tie.Need-returns Inv-loop μ-loop
 returns c = refused-answer (going-stop _ _ _ _ _ _ _ (c .before .before .before .before .loop .inv) (c .before .before .before .loop-test .taken) (c .before .before .read-row .ensures .refusal (not-true _ (c .if1 .taken)))) refl
 
-mul-t : tie.Need-mul-t Inv-loop μ-loop
-mul-t c = search needs
+mul-first : tie.Need-mul-first Inv-loop μ-loop
+mul-first c = search needs
 
-element-write-t : tie.Need-element-write-t Inv-loop μ-loop
-element-write-t c = search needs
+element-write-first : tie.Need-element-write-first Inv-loop μ-loop
+element-write-first c = search needs
 
-mul-t-2 : tie.Need-mul-t-2 Inv-loop μ-loop
-mul-t-2 c = search needs
+mul-second : tie.Need-mul-second Inv-loop μ-loop
+mul-second c = search needs
 
-element-write-t-2 : tie.Need-element-write-t-2 Inv-loop μ-loop
-element-write-t-2 c = search needs
+element-write-second : tie.Need-element-write-second Inv-loop μ-loop
+element-write-second c = search needs
 
-mul-three : tie.Need-mul-three Inv-loop μ-loop
-mul-three c = search needs
+put-three-requires : tie.Need-put-three-requires Inv-loop μ-loop
+put-three-requires c κs = search needs
 
-element-set-from-three : tie.Need-element-set-from-three Inv-loop μ-loop
-element-set-from-three c = search needs
-
-mul-pair : tie.Need-mul-pair Inv-loop μ-loop
-mul-pair c = search needs
-
-element-set-from-pair : tie.Need-element-set-from-pair Inv-loop μ-loop
-element-set-from-pair c = search needs
+put-pair-requires : tie.Need-put-pair-requires Inv-loop μ-loop
+put-pair-requires c κs = search needs
 
 both-requires : tie.Need-both-requires Inv-loop μ-loop
 both-requires c κs = search needs
@@ -64,10 +56,10 @@ add-k : tie.Need-add-k Inv-loop μ-loop
 add-k c = search needs
 
 loop-less : tie.Need-loop-less Inv-loop μ-loop
-loop-less c = omega (arith, c .before .before .before .before .before .before .loop-test .taken)
+loop-less c = omega (arith, c .before .before .before .before .before .before .before .before .loop-test .taken)
 
 loop-again : tie.Need-loop-again Inv-loop μ-loop
-loop-again c = going-next _ _ _ _ _ _ _ (c .before .before .before .before .before .before .before .loop .inv) _ _ (c .before .before .before .before .before .before .loop-test .taken) (c .before .before .before .before .before .read-row .ensures .held (not-false _ (c .before .before .before .if1 .left))) (c .both .ensures)
+loop-again c = going-next _ _ _ _ _ _ _ (c .before .before .before .before .before .before .before .before .before .loop .inv) _ _ _ _ (c .before .before .before .before .before .before .before .before .loop-test .taken) (c .before .before .before .before .before .before .before .read-row .ensures .held (not-false _ (c .before .before .before .before .before .if1 .left))) (c .before .before .before .put-three .ensures) (c .before .put-pair .ensures) (c .both .ensures)
 
 returns-2 : tie.Need-returns-2 Inv-loop μ-loop
 returns-2 c = held-answer (going-end _ _ _ _ _ _ _ (c .before .loop .inv) (c .loop-test .left)) (c .before .loop .inv .ok)
@@ -78,20 +70,17 @@ read-rows-spec =
     (tie.spec
     Inv-loop
     μ-loop
-    no-rows-requires
     unused-count-requires
     add-last
     loop-holds
     read-row-requires
     returns
-    mul-t
-    element-write-t
-    mul-t-2
-    element-write-t-2
-    mul-three
-    element-set-from-three
-    mul-pair
-    element-set-from-pair
+    mul-first
+    element-write-first
+    mul-second
+    element-write-second
+    put-three-requires
+    put-pair-requires
     both-requires
     add-k
     loop-less

@@ -4,6 +4,7 @@ use mathlib.Core.List.{[], _∷_}
 use Prim.Native.Nat.{_+_, _-_, _≤_}
 use native.Mathlib.Omega.{arith}
 use lib.ListN.{length, length-append}
+use Rattle.arrays.specs.Arrays.{threesOf}
 use Rattle.report_writer.specs.LineLaws.{node-table-length}
 use Rattle.report_writer.specs.Lines.{linesFrom, nodeTable}
 use Rattle.report_writer.specs.Tables.{nodeLineAt}
@@ -14,25 +15,25 @@ use Rattle.report_writer.proofs.tables.put_nodes.Statement.{statement}
 use Rattle.report_writer.proofs.tables.put_nodes.Tie as tie
 
 abbrev Inv-loop : tie.InvT-loop
-Inv-loop out₀ rows nodes v at₀ k₀ out at k = Writing (nodeLineAt nodes v) rows 0 out₀ at₀ out at k
+Inv-loop out₀ nodes rows v at₀ k₀ out at k = Writing (nodeLineAt nodes (threesOf v)) rows 0 out₀ at₀ out at k
 
 abbrev μ-loop : tie.MeasureT-loop
-μ-loop out₀ rows nodes v at₀ k₀ out at k = rows + 1 - k
+μ-loop out₀ nodes rows v at₀ k₀ out at k = rows + 1 - k
 
 -- behind the column names there is room for the lines and the empty line
 room : (c : tie.At-loop Inv-loop μ-loop) →
     let a = c .before .before .before .before .before .before .before .args in
-    c .before .before .before .put-bytes .result + length (dueFrom (nodeLineAt (a .t2) (a .t4)) 0 (a .rows)) ≤ length (c .before .before .before .put-bytes .last .0)
+    c .before .before .before .put-bytes .result + length (dueFrom (nodeLineAt (a .nodes .now) (threesOf (a .v .now))) 0 (a .rows)) ≤ length (c .before .before .before .put-bytes .last .0)
 room c =
     let a = c .before .before .before .before .before .before .before .args in
-    let g = nodeLineAt (a .t2) (a .t4) in
+    let g = nodeLineAt (a .nodes .now) (threesOf (a .v .now)) in
     omega (arith, node-table-length g (a .rows), length-append (linesFrom g 0 (a .rows)) (10 ∷ []), c .before .before .before .before .before .before .before .pre .1, c .before .before .before .put-bytes .ensures .next, c .before .before .before .put-bytes .kept .0)
 
 slice-aggregate-put-bytes : tie.Need-slice-aggregate-put-bytes Inv-loop μ-loop
 slice-aggregate-put-bytes c = search needs
 
 put-bytes-requires : tie.Need-put-bytes-requires Inv-loop μ-loop
-put-bytes-requires c κs = let a = c .before .before .before .args in omega (arith, node-table-length (nodeLineAt (a .t2) (a .t4)) (a .rows), c .before .before .before .pre .1)
+put-bytes-requires c κs = let a = c .before .before .before .args in omega (arith, node-table-length (nodeLineAt (a .nodes .now) (threesOf (a .v .now))) (a .rows), c .before .before .before .pre .1)
 
 loop-holds : tie.Need-loop-holds Inv-loop μ-loop
 loop-holds c = writing-all _ _ _ _ _
@@ -40,18 +41,15 @@ loop-holds c = writing-all _ _ _ _ _
 mul-name : tie.Need-mul-name Inv-loop μ-loop
 mul-name c = search needs
 
-array-read-name : tie.Need-array-read-name Inv-loop μ-loop
-array-read-name c = search needs
+element-copy-out-name : tie.Need-element-copy-out-name Inv-loop μ-loop
+element-copy-out-name c = search needs
 
-mul-x : tie.Need-mul-x Inv-loop μ-loop
-mul-x c = search needs
-
-array-copy-out-x : tie.Need-array-copy-out-x Inv-loop μ-loop
-array-copy-out-x c = search needs
+three-at-requires : tie.Need-three-at-requires Inv-loop μ-loop
+three-at-requires c κs = search needs
 
 put-node-requires : tie.Need-put-node-requires Inv-loop μ-loop
 unfolding nodeLineAt
-put-node-requires c κs = line-room (c .before .before .before .loop .inv) (omega arith) (room (c .before .before .before))
+put-node-requires c κs = rw (c .before .three-at .ensures) (line-room (c .before .before .before .before .loop .inv) (omega arith) (room (c .before .before .before .before)))
 
 add-k : tie.Need-add-k Inv-loop μ-loop
 add-k c = search needs
@@ -61,7 +59,7 @@ loop-less c = search needs
 
 loop-again : tie.Need-loop-again Inv-loop μ-loop
 unfolding nodeLineAt
-loop-again c = line-written (c .before .before .before .before .before .before .loop .inv) (omega arith) (c .before .before .put-node .ensures)
+loop-again c = line-written (c .before .before .before .before .before .before .before .loop .inv) (omega arith) (rw (c .before .before .before .before .three-at .ensures) at (c .before .before .put-node .ensures))
 
 put-byte-requires : tie.Need-put-byte-requires Inv-loop μ-loop
 put-byte-requires c κs = end-room (c .before .before .loop .inv) (omega arith) (room (c .before .before))
@@ -83,9 +81,8 @@ put-nodes-spec =
     put-bytes-requires
     loop-holds
     mul-name
-    array-read-name
-    mul-x
-    array-copy-out-x
+    element-copy-out-name
+    three-at-requires
     put-node-requires
     add-k
     loop-less

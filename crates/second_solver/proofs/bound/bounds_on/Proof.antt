@@ -5,10 +5,12 @@ use Rattle.second_solver.proofs.bound.bounds_on.Statement.{statement}
 use Rattle.second_solver.proofs.bound.bounds_on.Tie as tie
 
 abbrev Inv-loop : tie.InvT-loop
-Inv-loop solved reported branches rows order loads count none moved e₀ i₀ sweeps₀ e i sweeps = sweeps ≤ 1000
+Inv-loop solved reported voltages₀ currents₀ branches rows order loads count none moved sweeps₀ voltages currents sweeps =
+    sweeps ≤ 1000
 
 abbrev μ-loop : tie.MeasureT-loop
-μ-loop solved reported branches rows order loads count none moved e₀ i₀ sweeps₀ e i sweeps = 1000 - sweeps
+μ-loop solved reported voltages₀ currents₀ branches rows order loads count none moved sweeps₀ voltages currents sweeps =
+    1000 - sweeps
 
 no-phasors-requires : tie.Need-no-phasors-requires Inv-loop μ-loop
 no-phasors-requires c κs = search needs
@@ -25,14 +27,8 @@ loop-holds c = search needs
 drawn-bounds-requires : tie.Need-drawn-bounds-requires Inv-loop μ-loop
 drawn-bounds-requires c κs = search needs
 
-upward-requires : tie.Need-upward-requires Inv-loop μ-loop
-upward-requires c κs = search needs
-
-downward-requires : tie.Need-downward-requires Inv-loop μ-loop
-downward-requires c κs = search needs
-
-all-still-requires : tie.Need-all-still-requires Inv-loop μ-loop
-all-still-requires c κs = search needs
+sweep-requires : tie.Need-sweep-requires Inv-loop μ-loop
+sweep-requires c κs = search needs
 
 returns : tie.Need-returns Inv-loop μ-loop
 returns c = search needs
@@ -60,9 +56,7 @@ bounds-on-spec =
     nearest-u64-to-f64-requires
     loop-holds
     drawn-bounds-requires
-    upward-requires
-    downward-requires
-    all-still-requires
+    sweep-requires
     returns
     add-sweeps
     loop-less

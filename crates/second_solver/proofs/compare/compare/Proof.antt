@@ -5,10 +5,10 @@ use Rattle.second_solver.proofs.compare.compare.Statement.{statement}
 use Rattle.second_solver.proofs.compare.compare.Tie as tie
 
 abbrev Inv-loop : tie.InvT-loop
-Inv-loop rows moved solved reported bounds last c₀ k₀ c k = k ≤ last + 1
+Inv-loop rows solved reported bounds moved last c₀ k₀ c k = k ≤ last + 1
 
 abbrev μ-loop : tie.MeasureT-loop
-μ-loop rows moved solved reported bounds last c₀ k₀ c k = last + 1 - k
+μ-loop rows solved reported bounds moved last c₀ k₀ c k = last + 1 - k
 
 place-requires : tie.Need-place-requires Inv-loop μ-loop
 place-requires c κs = search needs
@@ -16,23 +16,14 @@ place-requires c κs = search needs
 loop-holds : tie.Need-loop-holds Inv-loop μ-loop
 loop-holds c = search needs
 
-mul-x : tie.Need-mul-x Inv-loop μ-loop
-mul-x c = search needs
+phasors-at-requires : tie.Need-phasors-at-requires Inv-loop μ-loop
+phasors-at-requires c κs = search needs
 
-array-copy-out-x : tie.Need-array-copy-out-x Inv-loop μ-loop
-array-copy-out-x c = search needs
+three-at-requires : tie.Need-three-at-requires Inv-loop μ-loop
+three-at-requires c κs = search needs
 
-mul-y : tie.Need-mul-y Inv-loop μ-loop
-mul-y c = search needs
-
-array-copy-out-y : tie.Need-array-copy-out-y Inv-loop μ-loop
-array-copy-out-y c = search needs
-
-mul-e : tie.Need-mul-e Inv-loop μ-loop
-mul-e c = search needs
-
-array-copy-out-e : tie.Need-array-copy-out-e Inv-loop μ-loop
-array-copy-out-e c = search needs
+phasors-at-requires-2 : tie.Need-phasors-at-requires-2 Inv-loop μ-loop
+phasors-at-requires-2 c κs = search needs
 
 phasors-of-requires : tie.Need-phasors-of-requires Inv-loop μ-loop
 phasors-of-requires c κs = search needs
@@ -60,12 +51,9 @@ compare-spec =
     μ-loop
     place-requires
     loop-holds
-    mul-x
-    array-copy-out-x
-    mul-y
-    array-copy-out-y
-    mul-e
-    array-copy-out-e
+    phasors-at-requires
+    three-at-requires
+    phasors-at-requires-2
     phasors-of-requires
     compare-row-requires
     add-k

@@ -16,17 +16,11 @@ place-requires c κs = search needs
 loop-holds : tie.Need-loop-holds Inv-loop μ-loop
 loop-holds c = search needs
 
-mul-x : tie.Need-mul-x Inv-loop μ-loop
-mul-x c = search needs
+phasors-at-requires : tie.Need-phasors-at-requires Inv-loop μ-loop
+phasors-at-requires c κs = search needs
 
-array-copy-out-x : tie.Need-array-copy-out-x Inv-loop μ-loop
-array-copy-out-x c = search needs
-
-mul-y : tie.Need-mul-y Inv-loop μ-loop
-mul-y c = search needs
-
-array-copy-out-y : tie.Need-array-copy-out-y Inv-loop μ-loop
-array-copy-out-y c = search needs
+phasors-at-requires-2 : tie.Need-phasors-at-requires-2 Inv-loop μ-loop
+phasors-at-requires-2 c κs = search needs
 
 still-requires : tie.Need-still-requires Inv-loop μ-loop
 still-requires c κs = search needs
@@ -54,10 +48,8 @@ all-still-spec =
     μ-loop
     place-requires
     loop-holds
-    mul-x
-    array-copy-out-x
-    mul-y
-    array-copy-out-y
+    phasors-at-requires
+    phasors-at-requires-2
     still-requires
     returns
     add-k

@@ -5,13 +5,10 @@ use Rattle.second_solver.proofs.solver.solve.Statement.{statement}
 use Rattle.second_solver.proofs.solver.solve.Tie as tie
 
 abbrev Inv-loop : tie.InvT-loop
-Inv-loop branches rows order loads count i₀ source v₀ sweeps₀ i v sweeps = sweeps ≤ 1000
+Inv-loop v₀ i₀ branches rows order loads count source sweeps₀ v i sweeps = sweeps ≤ 1000
 
 abbrev μ-loop : tie.MeasureT-loop
-μ-loop branches rows order loads count i₀ source v₀ sweeps₀ i v sweeps = 1000 - sweeps
-
-no-phasors-requires : tie.Need-no-phasors-requires Inv-loop μ-loop
-no-phasors-requires c κs = search needs
+μ-loop v₀ i₀ branches rows order loads count source sweeps₀ v i sweeps = 1000 - sweeps
 
 phasors-of-requires : tie.Need-phasors-of-requires Inv-loop μ-loop
 phasors-of-requires c κs = search needs
@@ -25,17 +22,11 @@ loop-holds c = search needs
 drawn-requires : tie.Need-drawn-requires Inv-loop μ-loop
 drawn-requires c κs = search needs
 
-upward-requires : tie.Need-upward-requires Inv-loop μ-loop
-upward-requires c κs = search needs
-
-downward-requires-2 : tie.Need-downward-requires-2 Inv-loop μ-loop
-downward-requires-2 c κs = search needs
-
 add-sweeps : tie.Need-add-sweeps Inv-loop μ-loop
 add-sweeps c = search needs
 
-all-still-requires : tie.Need-all-still-requires Inv-loop μ-loop
-all-still-requires c κs = search needs
+sweep-requires : tie.Need-sweep-requires Inv-loop μ-loop
+sweep-requires c κs = search needs
 
 returns : tie.Need-returns Inv-loop μ-loop
 returns c = search needs
@@ -55,15 +46,12 @@ solve-spec =
     (tie.spec
     Inv-loop
     μ-loop
-    no-phasors-requires
     phasors-of-requires
     downward-requires
     loop-holds
     drawn-requires
-    upward-requires
-    downward-requires-2
     add-sweeps
-    all-still-requires
+    sweep-requires
     returns
     loop-less
     loop-again

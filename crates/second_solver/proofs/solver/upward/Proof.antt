@@ -5,10 +5,10 @@ use Rattle.second_solver.proofs.solver.upward.Statement.{statement}
 use Rattle.second_solver.proofs.solver.upward.Tie as tie
 
 abbrev Inv-loop : tie.InvT-loop
-Inv-loop rows quantity branches order i₀ left₀ i left = left < 201
+Inv-loop rows order quantity i₀ branches left₀ i left = left < 201
 
 abbrev μ-loop : tie.MeasureT-loop
-μ-loop rows quantity branches order i₀ left₀ i left = left
+μ-loop rows order quantity i₀ branches left₀ i left = left
 
 place-requires : tie.Need-place-requires Inv-loop μ-loop
 place-requires c κs = search needs
@@ -19,8 +19,8 @@ loop-holds c = search needs
 mul-place : tie.Need-mul-place Inv-loop μ-loop
 mul-place c = search needs
 
-array-read-place : tie.Need-array-read-place Inv-loop μ-loop
-array-read-place c = search needs
+element-copy-out-place : tie.Need-element-copy-out-place Inv-loop μ-loop
+element-copy-out-place c = search needs
 
 place-requires-2 : tie.Need-place-requires-2 Inv-loop μ-loop
 place-requires-2 c κs = search needs
@@ -34,29 +34,14 @@ array-copy-out-b c = search needs
 place-requires-3 : tie.Need-place-requires-3 Inv-loop μ-loop
 place-requires-3 c κs = search needs
 
-mul-far : tie.Need-mul-far Inv-loop μ-loop
-mul-far c = search needs
-
-array-copy-out-far : tie.Need-array-copy-out-far Inv-loop μ-loop
-array-copy-out-far c = search needs
-
-mul-held : tie.Need-mul-held Inv-loop μ-loop
-mul-held c = search needs
-
-array-copy-out-held : tie.Need-array-copy-out-held Inv-loop μ-loop
-array-copy-out-held c = search needs
+phasors-at-requires : tie.Need-phasors-at-requires Inv-loop μ-loop
+phasors-at-requires c κs = search needs
 
 near-currents-requires : tie.Need-near-currents-requires Inv-loop μ-loop
 near-currents-requires c κs = search needs
 
-add-each-requires : tie.Need-add-each-requires Inv-loop μ-loop
-add-each-requires c κs = search needs
-
-mul-i : tie.Need-mul-i Inv-loop μ-loop
-mul-i c = search needs
-
-array-set-from-i : tie.Need-array-set-from-i Inv-loop μ-loop
-array-set-from-i c = search needs
+add-at-requires : tie.Need-add-at-requires Inv-loop μ-loop
+add-at-requires c κs = search needs
 
 sub-left : tie.Need-sub-left Inv-loop μ-loop
 sub-left c = search needs
@@ -79,19 +64,14 @@ upward-spec =
     place-requires
     loop-holds
     mul-place
-    array-read-place
+    element-copy-out-place
     place-requires-2
     mul-b
     array-copy-out-b
     place-requires-3
-    mul-far
-    array-copy-out-far
-    mul-held
-    array-copy-out-held
+    phasors-at-requires
     near-currents-requires
-    add-each-requires
-    mul-i
-    array-set-from-i
+    add-at-requires
     sub-left
     loop-less
     loop-again

@@ -1,9 +1,9 @@
 -- `tables::branches::read_branches` meets its contract: behind the line of names it is what the reader of the rows answers. Assumes nothing.
+use native.Mathlib.Omega.{arith}
 use borrow.Author.Needs.{needs}
 use mathlib.Core.Bool.{true}
-use mathlib.Core.Path.{_≡_, sym, _∙_}
+use mathlib.Core.Path.{_≡_, _∙_, sym}
 use Prim.Native.Nat.{ℕ}
-use native.Mathlib.Omega.{arith}
 use lib.ListN.{drop}
 use borrow.Author.Tests.{not-false, not-true}
 use Rattle.text.specs.Text.{begins, bytes}
@@ -14,9 +14,9 @@ use Rattle.tables.proofs.branches.read_branches.Statement.{statement}
 use Rattle.tables.proofs.branches.read_branches.Tie as tie
 
 -- the line of names stands at the start
-names : (c : tie.Else1) → begins (bytes branchNames) (drop 0 (c .before .before .before .before .args .part .now)) ≡ true
+named : (c : tie.Else1) → begins (bytes branchNames) (drop 0 (c .before .before .before .before .args .part .now)) ≡ true
 unfolding bytes
-names c = sym (c .before .stands .ensures) ∙ not-false _ (c .if1 .left)
+named c = sym (c .before .stands .ensures) ∙ not-false _ (c .if1 .left)
 
 slice-aggregate-stands : tie.Need-slice-aggregate-stands
 slice-aggregate-stands c = search needs
@@ -24,27 +24,18 @@ slice-aggregate-stands c = search needs
 stands-requires : tie.Need-stands-requires
 stands-requires c κs = search needs
 
-no-branch-row-requires : tie.Need-no-branch-row-requires
-no-branch-row-requires c κs = search needs
-
 returns : tie.Need-returns
 unfolding bytes
-returns c = (branches-unnamed (c .before .before .before .before .before .args .part .now) (sym (c .before .before .stands .ensures) ∙ not-true _ (c .before .if1 .taken)), (λ p e. let z : _≡_ {A = ℕ} 0 1 = cc in absurd (omega arith)))
+returns c = (record { said = branches-unnamed (c .before .before .before .before .args .part .now) (sym (c .before .stands .ensures) ∙ not-true _ (c .if1 .taken)) }, (λ p e. let z : _≡_ {A = ℕ} 0 1 = cc in absurd (omega arith)))
 
 read-rows-requires : tie.Need-read-rows-requires
 unfolding bytes
-read-rows-requires c κs = let i = begins-within (bytes branchNames) (c .before .before .before .before .args .part .now) 0 (omega arith) (names c) in (omega arith, omega arith)
+read-rows-requires c κs = let i = begins-within (bytes branchNames) (c .before .before .before .before .before .before .before .args .part .now) 0 (omega arith) (named (c .before .before .before)) in ((omega arith, omega arith), c .before .before .before .before .before .before .before .pre)
 
 returns-2 : tie.Need-returns-2
-returns-2 c = (rw (branches-named (c .before .before .before .before .before .args .part .now) (names (c .before))) (c .read-rows .ensures .0), (λ p e. let h = c .read-rows .ensures .1 p e in (omega arith, h .1)))
+returns-2 c = (rw (branches-named (c .before .before .before .before .before .before .before .before .args .part .now) (named (c .before .before .before .before))) (c .read-rows .ensures .0), (λ p e. let h = c .read-rows .ensures .1 p e in (omega arith, h .1)))
 
 pub read-branches-spec : {M : Type 1} → statement M
 read-branches-spec =
     tie.close
-    (tie.spec
-    slice-aggregate-stands
-    stands-requires
-    no-branch-row-requires
-    returns
-    read-rows-requires
-    returns-2)
+    (tie.spec slice-aggregate-stands stands-requires returns read-rows-requires returns-2)

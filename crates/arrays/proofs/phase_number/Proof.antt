@@ -1,0 +1,31 @@
+-- `arrays::phase_number` meets its contract: one number for each phase. Assumes nothing.
+use mathlib.Core.Path.{ap, sym}
+use Rattle.arrays.specs.Arrays.{phaseNumber}
+use borrow.Author.Needs.{needs}
+use Rattle.arrays.proofs.phase_number.Statement.{statement}
+use Rattle.arrays.proofs.phase_number.Tie as tie
+
+enum-told : tie.Need-enum-told
+enum-told c = search needs
+
+enum-told-2 : tie.Need-enum-told-2
+enum-told-2 c = search needs
+
+enum-told-3 : tie.Need-enum-told-3
+enum-told-3 c = search needs
+
+returns : tie.Need-returns
+unfolding phaseNumber
+returns c = (sym (ap phaseNumber (c .enum-told .given .1)), search needs)
+
+returns-2 : tie.Need-returns-2
+unfolding phaseNumber
+returns-2 c = (sym (ap phaseNumber (c .enum-told2 .given .1)), search needs)
+
+returns-3 : tie.Need-returns-3
+unfolding phaseNumber
+returns-3 c = (sym (ap phaseNumber (c .enum-told3 .given .1)), search needs)
+
+pub phase-number-spec : {M : Type 1} → statement M
+phase-number-spec =
+    tie.close (tie.spec enum-told enum-told-2 enum-told-3 returns returns-2 returns-3)

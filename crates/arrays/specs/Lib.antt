@@ -1,0 +1,4 @@
+-- Definitions
+pub mod Arrays
+-- Laws
+pub mod ArrayLaws
