@@ -1,7 +1,7 @@
 // The tests of a report against its feeder that work no voltage, over their arrays: 51 names, 52 source voltages and absent phases,
 // 53 currents, 55 losses and totals. specs/Differences.antt has each test, specs/Compare.antt the same over arrays.
 ghost use mathlib.Core.Path.{_≡_};
-ghost use mathlib.Core.Bool.{_&&_, cond, true};
+ghost use mathlib.Core.Bool.{cond, true};
 ghost use mathlib.Core.List.{List, _∷_, map};
 ghost use Prim.Native.Nat.{ℕ, _+_, _<_, _≤_};
 ghost use Rattle.integers.specs.Lists.{all, count};
@@ -26,6 +26,7 @@ use arrays::from_at;
 use arrays::pair_at;
 use arrays::phases_at;
 use arrays::three_at;
+use devices::threes::all_of;
 use feeder::Phases;
 use feeder::Three;
 use integers::Pair;
@@ -44,12 +45,6 @@ fn same_pair(x: Pair, y: Pair) -> bool
     let p = same_whole(x.re, y.re);
     let q = same_whole(x.im, y.im);
     p && q
-}
-
-fn all_of(a: bool, b: bool, c: bool) -> bool
-    ensures { λ r. ⌜ r ≡ (a && (b && c)) ⌝ }
-{
-    a && (b && c)
 }
 
 fn same_three(x: Three, y: Three) -> bool

@@ -59,7 +59,8 @@ pub fn keep(f: Phases, x: Three) -> Three
     Three { a: a, b: b, c: c }
 }
 
-fn all_of(a: bool, b: bool, c: bool) -> bool
+// Whether a test holds on every phase.
+pub fn all_of(a: bool, b: bool, c: bool) -> bool
     ensures { λ r. ⌜ r ≡ (a && (b && c)) ⌝ }
 {
     a && (b && c)
