@@ -1,5 +1,5 @@
 // The check's program: `archive_check FEEDER REPORT` reads the two files and writes "pass", or the one line "refused NUMBER VALUE". A file that
-// cannot be opened or read is named on standard error, and nothing is written to standard output.
+// cannot be opened or read is named on standard error, and so is standard output where it cannot be written.
 use programs::print;
 use programs::print_refusal;
 use programs::used;
@@ -35,15 +35,12 @@ fn read_named(index: usize, file: &mut [u8]) -> Got {
     Got::Size(n)
 }
 
-fn print_verdict(feeder: &[u8], report: &[u8]) {
+// Whether all was written.
+fn print_verdict(feeder: &[u8], report: &[u8]) -> bool {
     let verdict = check(feeder, report);
     match verdict {
-        Verdict::Pass => {
-            print(b"pass\n");
-        }
-        Verdict::Fail(x) => {
-            print_refusal(x);
-        }
+        Verdict::Pass => print(b"pass\n"),
+        Verdict::Fail(x) => print_refusal(x),
     }
 }
 
@@ -58,5 +55,7 @@ fn main() {
     };
     let n = used(n, &feeder);
     let m = used(m, &report);
-    print_verdict(&feeder[..n], &report[..m]);
+    if !print_verdict(&feeder[..n], &report[..m]) {
+        os::fail(b"standard output");
+    }
 }

@@ -5,19 +5,20 @@ use answers::number_of;
 use answers::value_of;
 use libc::STDOUT_FILENO;
 
-pub fn print(words: &[u8]) {
-    io::write_all(STDOUT_FILENO, words);
+// Both answer whether all was written.
+pub fn print(words: &[u8]) -> bool {
+    io::write_all(STDOUT_FILENO, words)
 }
 
 // The line "refused NUMBER VALUE".
-pub fn print_refusal(x: Refusal) {
+pub fn print_refusal(x: Refusal) -> bool {
     let number = number_of(x);
     let value = value_of(x);
-    print(b"refused ");
-    io::print_decimal(STDOUT_FILENO, number as u64);
-    print(b" ");
-    io::print_decimal(STDOUT_FILENO, value as u64);
-    print(b"\n");
+    print(b"refused ")
+        && io::print_decimal(STDOUT_FILENO, number as u64)
+        && print(b" ")
+        && io::print_decimal(STDOUT_FILENO, value as u64)
+        && print(b"\n")
 }
 
 // How many bytes at the buffer's start are in use: size, which is never more than the buffer has.

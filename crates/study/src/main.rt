@@ -1,21 +1,20 @@
 // The study program: reads a feeder from standard input, and writes its report, or the one line "refused NUMBER VALUE". Where standard input cannot be
-// read, it is named on standard error, and nothing is written to standard output.
+// read, or standard output not be written, it is named on standard error.
 use ladder::Study;
 use ladder::study_feeder;
 use programs::print;
 use programs::print_refusal;
 use programs::used;
 
-fn print_study(file: &[u8], out: &mut [u8]) {
+// Whether all was written.
+fn print_study(file: &[u8], out: &mut [u8]) -> bool {
     let answer = study_feeder(file, out);
     match answer {
         Study::Written(len, _) => {
             let n = used(len, out);
-            print(&out[..n]);
+            print(&out[..n])
         }
-        Study::NoReport(x) => {
-            print_refusal(x);
-        }
+        Study::NoReport(x) => print_refusal(x),
     }
 }
 
@@ -28,5 +27,7 @@ fn main() {
         os::fail(b"standard input");
         return;
     }
-    print_study(&file[..n], &mut out);
+    if !print_study(&file[..n], &mut out) {
+        os::fail(b"standard output");
+    }
 }

@@ -24,7 +24,8 @@ enum Kind {
     Check,
 }
 
-fn try_reading(feeder: &[u8]) {
+// Each of these writes the rest of a case's line, and answers whether it was written.
+fn try_reading(feeder: &[u8]) -> bool {
     let read = read_feeder(feeder);
     let answer = read.answer;
     match answer {
@@ -72,12 +73,11 @@ fn tells(answer: Study, report: &[u8]) -> bool {
     length == report.len() && sweeps == count.value
 }
 
-fn try_study(feeder: &[u8], report: &[u8], room: usize) {
+fn try_study(feeder: &[u8], report: &[u8], room: usize) -> bool {
     let mut buffer = [7u8; 65536];
     let answer = study_in(feeder, &mut buffer, room);
     if !check::same(&buffer, &buffer_with(report)) || !tells(answer, report) {
-        print(b"differs\n");
-        return;
+        return print(b"differs\n");
     }
     match answer {
         Study::Written(_, _) => print(b"good\n"),
@@ -85,7 +85,7 @@ fn try_study(feeder: &[u8], report: &[u8], room: usize) {
     }
 }
 
-fn try_check(feeder: &[u8], report: &[u8]) {
+fn try_check(feeder: &[u8], report: &[u8]) -> bool {
     let verdict = report_check::check(feeder, report);
     match verdict {
         Verdict::Pass => print(b"good\n"),
@@ -94,7 +94,7 @@ fn try_check(feeder: &[u8], report: &[u8]) {
 }
 
 // The line of one case, whose places lie in the text.
-fn try_case(kind: Kind, number: usize, text: &[u8], case: Case)
+fn try_case(kind: Kind, number: usize, text: &[u8], case: Case) -> bool
     requires { ⌜ (case .feeder ≤ case .report) × (case .report ≤ case .end) × (case .end ≤ length (now text)) ⌝ }
 {
     let from = case.feeder;
