@@ -16,8 +16,8 @@ use Rattle.feeder.specs.Feeder.{Feeder, reading}
 use Rattle.feeder.specs.declared.Three.{Three}
 use Rattle.flarecomb.specs.ReadingValues.{reading-up-to}
 use Rattle.flarecomb.specs.Values.{UpTo, after-up-to, cond-up-to, good-up-to, if-up-to, refused-up-to, then-up-to}
-use Rattle.ladder.specs.Ladder.{Solution, settled, solution, sweep}
-use Rattle.ladder.specs.LadderLaws.{solved}
+use Rattle.iteration.specs.Ladder.{Solution, settled, solution, sweep}
+use Rattle.iteration.specs.LadderLaws.{solved}
 use Rattle.ladder.specs.Stages.{fitted-is, fittedFrom, fittedWith, textOf}
 use Rattle.ladder.specs.Study.{Report, answered, fitted, report, studyOf}
 use Rattle.ladder.specs.StudyLaws.{study-good}

@@ -20,14 +20,14 @@ use Rattle.integers.specs.ListLaws.{getD-map, getD-tab, length-tab}
 use Rattle.integers.specs.Lists.{count}
 use Rattle.integers.specs.Pairs.{0c}
 use Rattle.integers.specs.declared.Pair.{Pair}
-use Rattle.ladder.specs.Ladder.{Solution, solution}
-use Rattle.ladder.specs.Runs.{GoodRun, SolvedAs}
-use Rattle.ladder.specs.RunLaws.{same-array}
+use Rattle.iteration.specs.Ladder.{Solution, solution}
+use Rattle.iteration.specs.Runs.{GoodRun, SolvedAs}
+use Rattle.iteration.specs.RunLaws.{same-array}
 use Rattle.ladder.specs.Stages.{StudyAs, fitted-is, fittedFrom, fittedWith, study-same, textOf}
 use Rattle.ladder.specs.Study.{bufferOf, studyOf}
-use Rattle.ladder.specs.declared.Run.{Run}
-use Rattle.ladder.specs.declared.Solving.{Solving}
-use Rattle.ladder.specs.declared.Solving.the-variants.{Solved, Unsolved}
+use Rattle.iteration.specs.declared.Run.{Run}
+use Rattle.iteration.specs.declared.Solving.{Solving}
+use Rattle.iteration.specs.declared.Solving.the-variants.{Solved, Unsolved}
 use Rattle.ladder.specs.declared.Study.{Study}
 use Rattle.ladder.specs.declared.Study.the-variants.{NoReport, Written}
 use Rattle.passes.specs.Passes.{LossesAre}

@@ -7,7 +7,7 @@ use lib.ListN.{length}
 use Rattle.answers.specs.Answers.{Outcome, _>>=_, _>>_, good, refuseIf, refused}
 use Rattle.answers.specs.declared.Refusal.the-variants.{BufferShort}
 use Rattle.feeder.specs.Feeder.{Feeder, reading}
-use Rattle.ladder.specs.Ladder.{Solution, solution}
+use Rattle.iteration.specs.Ladder.{Solution, solution}
 use Rattle.ladder.specs.Study.{Report, answered, filled, fitted, report}
 use Rattle.ladder.specs.declared.Study.{Study}
 use Rattle.report.specs.Report.{reportText}

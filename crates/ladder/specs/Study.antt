@@ -6,7 +6,7 @@ use lib.ListN.{drop, length}
 use Rattle.answers.specs.Answers.{Outcome, _>>=_, _>>_, good, refuseIf, refused}
 use Rattle.answers.specs.declared.Refusal.the-variants.{BufferShort}
 use Rattle.feeder.specs.Feeder.{reading}
-use Rattle.ladder.specs.Ladder.{solution}
+use Rattle.iteration.specs.Ladder.{solution}
 use Rattle.ladder.specs.declared.Study.{Study}
 use Rattle.ladder.specs.declared.Study.the-variants.{NoReport, Written}
 use Rattle.report.specs.Report.{reportText}

@@ -10,8 +10,8 @@ use Rattle.answers.specs.AnswerLaws.{bound, not-if, same-good}
 use Rattle.answers.specs.Answers.{Outcome, _>>=_, _>>_, good, refuseIf, refused}
 use Rattle.answers.specs.declared.Refusal.the-variants.{BufferShort}
 use Rattle.feeder.specs.Feeder.{Feeder, reading}
-use Rattle.ladder.specs.Ladder.{Solution, solution}
-use Rattle.ladder.specs.LadderLaws.{sweeps-in}
+use Rattle.iteration.specs.Ladder.{Solution, solution}
+use Rattle.iteration.specs.LadderLaws.{sweeps-in}
 use Rattle.ladder.specs.Study.{Report, answered, fitted, report, studyOf}
 use Rattle.ladder.specs.declared.Study.the-variants.{Written}
 use Rattle.report.specs.Report.{reportText}

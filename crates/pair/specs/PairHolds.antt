@@ -24,8 +24,8 @@ use Rattle.integers.specs.ListLaws.{all-count, length-tab}
 use Rattle.integers.specs.PairLaws.{Close}
 use Rattle.integers.specs.Pairs.{0c}
 use Rattle.integers.specs.declared.Pair.{Pair}
-use Rattle.ladder.specs.Ladder.{Solution, solution}
-use Rattle.ladder.specs.LadderLaws.{Solved, settled-close, solved}
+use Rattle.iteration.specs.Ladder.{Solution, solution}
+use Rattle.iteration.specs.LadderLaws.{Solved, settled-close, solved}
 use Rattle.ladder.specs.Study.{Report, report}
 use Rattle.pair.specs.Pair.{PairLaw}
 use Rattle.pair.specs.SolutionSizes.{solution-writable}

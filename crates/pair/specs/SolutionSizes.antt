@@ -22,8 +22,8 @@ use Rattle.integers.specs.ListLaws.{All, all-count, all-map, all-map2, any-fals
 use Rattle.integers.specs.Lists.{any, count}
 use Rattle.integers.specs.PairLaws.{Within, within-more}
 use Rattle.integers.specs.Pairs.{_·*_, scaled}
-use Rattle.ladder.specs.Ladder.{Solution}
-use Rattle.ladder.specs.LadderLaws.{Solved}
+use Rattle.iteration.specs.Ladder.{Solution}
+use Rattle.iteration.specs.LadderLaws.{Solved}
 use Rattle.report.specs.RoundTrip.{Writable}
 
 -- what 32 and 33 say of each row

@@ -13,7 +13,7 @@ use Rattle.feeder.specs.Layout.{branchRow, loadRow, rows, sourceTable, branchTa
 use Rattle.feeder.specs.Feeder.{firstRow, orElse, columnOf, sourceIn, branchIn, loadIn, outOfLimit, placeOf, nodesOf, unknownFrom, secondTo, deviceOf, feederOf, branchAt, phasesOf, above, notReached, phaseAbsent, zeros, notZero, reading}
 use Rattle.equations.specs.Equations.{each, plus3, minus3, sum3, masked, mix, voltageOn, rated, weight, currentAt, loadCurrent, zOf, dropOf, throughOf, takenOf, farVoltage, nearCurrent, downward, voltages, loadsAt, upward, currents, power, lossOf, sourcePower, drawnPower, lostPower, beyond, beyond3, zeroVoltage, loadBeyond, currentBeyond, voltageBeyond}
 use Rattle.report.specs.Report.{nameText, joined, nodeLine, branchLine, totalsLine, nodesText, branchesText, totalsText, reportText, rowsJust, tableOf, lastRow, reportOf, reportedVoltages, reportedCurrents, reportedLosses}
-use Rattle.ladder.specs.Ladder.{settled, sweep, solution}
+use Rattle.iteration.specs.Ladder.{settled, sweep, solution}
 use Rattle.ladder.specs.Study.{report, fitted, studyOf, bufferOf}
 use Rattle.compare.specs.Differences.{nameDiffers, sourceDiffers, currentDiffers, totalDiffers}
 use Rattle.report_check.specs.Check.{off, belowOff, voltageOff, compared, checked, checkOf}

@@ -3,7 +3,7 @@ use mathlib.Core.List.{List}
 use mathlib.Core.Path.{refl}
 use Rattle.arrays.specs.Arrays.{threesOf}
 use Rattle.feeder.specs.declared.Three.{Three}
-use Rattle.ladder.specs.RunLaws.{room-made}
+use Rattle.iteration.specs.RunLaws.{room-made}
 use Rattle.ladder.specs.StageLaws.{from-refused, from-solved, run-good, run-refused}
 use borrow.Author.Needs.{needs}
 use Rattle.ladder.proofs.study_network.Statement.{statement}

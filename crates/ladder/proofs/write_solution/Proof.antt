@@ -14,8 +14,8 @@ use Rattle.feeder.specs.declared.Three.{Three}
 use Rattle.integers.specs.declared.Pair.{Pair}
 use Rattle.report.specs.Report.{reportText}
 use Rattle.report_writer.specs.ReportIs.{Shown}
-use Rattle.ladder.specs.Ladder.{Solution}
-use Rattle.ladder.specs.Runs.{GoodRun}
+use Rattle.iteration.specs.Ladder.{Solution}
+use Rattle.iteration.specs.Runs.{GoodRun}
 use Rattle.ladder.specs.Stages.{textOf}
 use Rattle.ladder.specs.StageLaws.{given, shown, source-is, with-room, with-short}
 use Rattle.sweeps.specs.SweepsLaws.{in-arrays, ready, source-fits}

@@ -11,14 +11,14 @@ use Rattle.feeder.specs.Feeder.{Feeder}
 use Rattle.feeder.specs.Network.{Held}
 use Rattle.feeder.specs.declared.Network.{Network}
 use Rattle.feeder.specs.declared.Three.{Three}
-use Rattle.ladder.specs.Runs.{Room}
-use Rattle.ladder.specs.RunLaws.{Here, here-last, here-next, here-settled, here-start, here-stopped, no-start, room-made, same-zeros, small-solved, small-unsolved, stopped-start}
+use Rattle.iteration.specs.Runs.{Room}
+use Rattle.iteration.specs.RunLaws.{Here, here-last, here-next, here-settled, here-start, here-stopped, no-start, room-made, same-zeros, small-solved, small-unsolved, stopped-start}
 use Rattle.passes.specs.Same.{Same}
-use Rattle.ladder.specs.declared.Solving.the-variants.{Unsolved}
+use Rattle.iteration.specs.declared.Solving.the-variants.{Unsolved}
 use borrow.Author.Needs.{needs}
 use native.Mathlib.Omega.{arith}
-use Rattle.ladder.proofs.solve.Statement.{statement}
-use Rattle.ladder.proofs.solve.Tie as tie
+use Rattle.iteration.proofs.solve.Statement.{statement}
+use Rattle.iteration.proofs.solve.Tie as tie
 
 abbrev Inv-loop : tie.InvT-loop
 Inv-loop settings nodes branches loads order rank v₀ i₀ zero next₀ limit k₀ v i next k =

@@ -8,11 +8,11 @@ use Rattle.feeder.specs.Feeder.{Feeder}
 use Rattle.feeder.specs.Network.{Held}
 use Rattle.feeder.specs.declared.Network.{Network}
 use Rattle.feeder.specs.declared.Three.{Three}
-use Rattle.ladder.specs.Ladder.{settled}
-use Rattle.ladder.specs.RunLaws.{same-next, settled-is, small-again, small-settled, small-stopped, swept-again, swept-current, swept-high, swept-load, swept-settled, swept-zero}
+use Rattle.iteration.specs.Ladder.{settled}
+use Rattle.iteration.specs.RunLaws.{same-next, settled-is, small-again, small-settled, small-stopped, swept-again, swept-current, swept-high, swept-load, swept-settled, swept-zero}
 use borrow.Author.Needs.{needs}
-use Rattle.ladder.proofs.sweep_once.Statement.{statement}
-use Rattle.ladder.proofs.sweep_once.Tie as tie
+use Rattle.iteration.proofs.sweep_once.Statement.{statement}
+use Rattle.iteration.proofs.sweep_once.Tie as tie
 
 -- the feeder, the voltages that the sweep starts from, its currents and its voltages
 abbrev network : tie.Start → Network

@@ -19,14 +19,14 @@ use Rattle.integers.specs.Bools.{clash}
 use Rattle.integers.specs.ListLaws.{count-true, length-tab}
 use Rattle.integers.specs.Lists.{all, count}
 use Rattle.integers.specs.Pairs.{close}
-use Rattle.ladder.specs.Ladder.{Solution, settled, solution, sweep}
-use Rattle.ladder.specs.LadderLaws.{sweep-step}
-use Rattle.ladder.specs.Runs.{Room, SmallRun, SmallSwept, SolvedAs, SweptIs, stepAt, stepOf, stillAt}
-use Rattle.ladder.specs.declared.Run.{Run}
-use Rattle.ladder.specs.declared.Solving.the-variants.{Solved, Unsolved}
-use Rattle.ladder.specs.declared.Step.{Step}
-use Rattle.ladder.specs.declared.Step.the-variants.{Again, Settled, Stopped}
-use Rattle.ladder.specs.declared.Swept.{Swept}
+use Rattle.iteration.specs.Ladder.{Solution, settled, solution, sweep}
+use Rattle.iteration.specs.LadderLaws.{sweep-step}
+use Rattle.iteration.specs.Runs.{Room, SmallRun, SmallSwept, SolvedAs, SweptIs, stepAt, stepOf, stillAt}
+use Rattle.iteration.specs.declared.Run.{Run}
+use Rattle.iteration.specs.declared.Solving.the-variants.{Solved, Unsolved}
+use Rattle.iteration.specs.declared.Step.{Step}
+use Rattle.iteration.specs.declared.Step.the-variants.{Again, Settled, Stopped}
+use Rattle.iteration.specs.declared.Swept.{Swept}
 use Rattle.passes.specs.Passes.{DownwardIs}
 use Rattle.passes.specs.Same.{Same, currents-same, drawn-same, load-beyond-same, same-kept, voltages-same, zero-voltage-same}
 use Rattle.sweeps.specs.Sweeps.{SmallCurrents, WorkedIs, workOf}

@@ -17,7 +17,7 @@ use Rattle.integers.specs.ListLaws.{count-true}
 use Rattle.integers.specs.Lists.{all}
 use Rattle.integers.specs.PairLaws.{close-true}
 use Rattle.integers.specs.Pairs.{close}
-use Rattle.ladder.specs.Ladder.{Solution, settled, solution, sweep}
+use Rattle.iteration.specs.Ladder.{Solution, settled, solution, sweep}
 
 -- one step of the recursion
 pub sweep-step : (f : Feeder) (left k : ℕ) (v : List Three) → sweep f (suc left) k v

@@ -12,12 +12,12 @@ use Rattle.integers.specs.Lists.{all}
 use Rattle.integers.specs.Pairs.{close}
 use mathlib.Core.Path.{_≡_, ap₂, sym, _∙_}
 use Prim.Native.Nat.{ℕ, _+_, _-_, _<_, _≤_}
-use Rattle.ladder.specs.Runs.{stillAt}
-use Rattle.ladder.specs.RunLaws.{one-moved}
+use Rattle.iteration.specs.Runs.{stillAt}
+use Rattle.iteration.specs.RunLaws.{one-moved}
 use borrow.Author.Needs.{needs}
 use native.Mathlib.Omega.{arith}
-use Rattle.ladder.proofs.still.Statement.{statement}
-use Rattle.ladder.proofs.still.Tie as tie
+use Rattle.iteration.proofs.still.Statement.{statement}
+use Rattle.iteration.proofs.still.Tie as tie
 
 abbrev Inv-loop : tie.InvT-loop
 Inv-loop rows v w tol k₀ k = (1 ≤ k) × ((k ≤ rows + 1) × ((j : ℕ) → 0 < j → j < k → stillAt tol (threesOf v) (threesOf w) j ≡ true))

@@ -15,12 +15,12 @@ use Rattle.feeder.specs.declared.Three.{Three}
 use Rattle.integers.specs.Lists.{all}
 use Rattle.integers.specs.Pairs.{close}
 use Rattle.integers.specs.declared.Pair.{Pair}
-use Rattle.ladder.specs.Ladder.{Solution, settled}
-use Rattle.ladder.specs.declared.Run.{Run}
-use Rattle.ladder.specs.declared.Solving.the-variants.{Solved, Unsolved}
-use Rattle.ladder.specs.declared.Step.{Step}
-use Rattle.ladder.specs.declared.Step.the-variants.{Again, Settled, Stopped}
-use Rattle.ladder.specs.declared.Swept.{Swept}
+use Rattle.iteration.specs.Ladder.{Solution, settled}
+use Rattle.iteration.specs.declared.Run.{Run}
+use Rattle.iteration.specs.declared.Solving.the-variants.{Solved, Unsolved}
+use Rattle.iteration.specs.declared.Step.{Step}
+use Rattle.iteration.specs.declared.Step.the-variants.{Again, Settled, Stopped}
+use Rattle.iteration.specs.declared.Swept.{Swept}
 use Rattle.sweeps.specs.Sweeps.{SmallCurrents}
 
 -- "no re or im moved more than tol", at node k

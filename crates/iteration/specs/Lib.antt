@@ -1,0 +1,4 @@
+pub mod Ladder
+pub mod LadderLaws
+pub mod Runs
+pub mod RunLaws
