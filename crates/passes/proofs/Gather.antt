@@ -20,7 +20,7 @@ use Rattle.integers.specs.ListLaws.{all-count}
 use Rattle.integers.specs.Lists.{count, tab}
 use Rattle.passes.specs.Arrays.{branch-in, rank-most, reached-in, same?}
 use Rattle.passes.specs.Passes.{InArrays, Ready}
-use Rattle.passes.proofs.Along.{Turn, turn}
+use Rattle.passes.specs.Along.{Turn, turn}
 use Rattle.radial.specs.Radial.{parentIn}
 
 -- ---- a sum over rows, with one row more

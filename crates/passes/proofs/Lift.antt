@@ -13,19 +13,11 @@ use Rattle.feeder.specs.declared.Branch.{Branch}
 use Rattle.feeder.specs.declared.Three.{Three}
 use Rattle.integers.specs.Bools.{clash}
 use Rattle.integers.specs.ListLaws.{getD-tab, length-tab}
-use Rattle.integers.specs.PairLaws.{Within}
-use Rattle.integers.specs.declared.Pair.{Pair}
-use Rattle.passes.specs.Arrays.{branch-in, keeps, no-row, rank-most, same?, some-row}
+use Rattle.passes.specs.Arrays.{more3, branch-in, keeps, no-row, rank-most, same?, some-row}
 use Rattle.passes.specs.Passes.{InArrays, Ready, UpwardIs, upwards}
-use Rattle.passes.proofs.Along.{done-at, turn}
+use Rattle.passes.specs.Along.{done-at, turn}
 use Rattle.passes.proofs.Gather.{Holds, holds-is, holds-next, holds-own, taken}
 use Rattle.radial.specs.Radial.{parentIn}
-
-pub more : {m n : ℕ} {x : Pair} → m ≤ n → Within m x → Within n x
-more l h = record { re = omega (arith, h .re); im = omega (arith, h .im) }
-
-pub more3 : {m n : ℕ} {x : Three} → m ≤ n → Within3 m x → Within3 n x
-more3 l h = record { a = more l (h .a); b = more l (h .b); c = more l (h .c) }
 
 -- 32 does not apply at row b
 pub record Fine (branches : List Branch) (x : List Three) (b : ℕ) : Type 0 where

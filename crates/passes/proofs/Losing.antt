@@ -17,7 +17,7 @@ use Rattle.integers.specs.Pairs.{_+c_, 0c}
 use Rattle.integers.specs.declared.Pair.{Pair}
 use Rattle.passes.specs.Arrays.{branch-in, keeps, same?}
 use Rattle.passes.specs.Passes.{InArrays, LossesAre, SmallLosses}
-use Rattle.passes.proofs.Lift.{more}
+use Rattle.passes.specs.Arrays.{more}
 
 -- the loss of row k
 abbrev pub lossIn : List Branch → List Three → ℕ → Pair

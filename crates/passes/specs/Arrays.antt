@@ -16,6 +16,9 @@ use Rattle.feeder.specs.NetworkLaws.{getD-kept, length-kept}
 use Rattle.feeder.specs.declared.Branch.{Branch}
 use Rattle.feeder.specs.declared.Network.{Network}
 use Rattle.feeder.specs.declared.Three.{Three}
+use Rattle.equations.specs.Sizes.{Within3}
+use Rattle.integers.specs.PairLaws.{Within}
+use Rattle.integers.specs.declared.Pair.{Pair}
 use Rattle.integers.specs.ListLaws.{All, all-count, getD-tab, length-tab}
 use Rattle.integers.specs.Lists.{any, count, tab}
 use Rattle.passes.specs.Passes.{InArrays, Ready}
@@ -115,3 +118,10 @@ module _ (f : Feeder) (branches : List Branch) (rows : ℕ) (few : rows ≤ 200)
             sym (λ t. above (λ m. branch-in m t .from) (w .rows-are t) (1 + i)) ∙
             to-source r (1 + i) (omega (arith, w .rows-are));
       })
+
+-- a pair, or three, within a bound are within a greater one
+pub more : {m n : ℕ} {x : Pair} → m ≤ n → Within m x → Within n x
+more l h = record { re = omega (arith, h .re); im = omega (arith, h .im) }
+
+pub more3 : {m n : ℕ} {x : Three} → m ≤ n → Within3 m x → Within3 n x
+more3 l h = record { a = more l (h .a); b = more l (h .b); c = more l (h .c) }

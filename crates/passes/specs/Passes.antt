@@ -1,19 +1,18 @@
 -- What the passes over a feeder's arrays require, and what they give. Assumes nothing.
-use mathlib.Core.Bool.{_&&_, Bool, cond, false, not, true}
+use mathlib.Core.Bool.{Bool, not, true}
 use mathlib.Core.List.{_∷_, List, map}
 use mathlib.Core.Path.{_≡_}
-use Prim.Native.Nat.{_+_, _<_, _≤_, suc, ℕ}
+use Prim.Native.Nat.{_+_, _<_, suc, ℕ}
 use lib.ListN.{getD, length}
-use Rattle.answers.specs.declared.Found.{Found}
-use Rattle.equations.specs.Equations.{at, currentBeyond, downward, lossOf, lostPower, upward, voltageBeyond, voltages, zero3}
+use Rattle.equations.specs.Equations.{at, currentBeyond, lossOf, lostPower, upward, voltageBeyond, voltages, zero3}
 use Rattle.equations.specs.Limits.{DeviceOk}
 use Rattle.equations.specs.Sizes.{Within3}
-use Rattle.feeder.specs.Feeder.{Feeder, abc, firstRow, noBranch, parent, rowCount, rowsOf}
+use Rattle.feeder.specs.Feeder.{Feeder, noBranch, rowCount, rowsOf}
 use Rattle.feeder.specs.Network.{branchArray, kept}
 use Rattle.feeder.specs.declared.Branch.{Branch}
 use Rattle.feeder.specs.declared.Three.{Three}
-use Rattle.integers.specs.Lists.{all, count, tab}
-use Rattle.integers.specs.Pairs.{0c, close}
+use Rattle.integers.specs.Lists.{tab}
+use Rattle.integers.specs.Pairs.{0c}
 use Rattle.integers.specs.PairLaws.{Within}
 use Rattle.integers.specs.declared.Pair.{Pair}
 use Rattle.radial.specs.Radial.{Linked, Ordered, parentIn}
@@ -48,36 +47,6 @@ upwards f own = tab (upward f own (rowCount f)) 0 (suc (rowCount f))
 pub record UpwardIs (f : Feeder) (own : ℕ → Three) (ok : Bool) (at : List Three) : Type 0 where
   pub ok-is : ok ≡ not (currentBeyond f (upwards f own))
   pub at-is : ok ≡ true → at ≡ kept zero3 201 (upwards f own)
-
--- ---- 54
--- reported voltages that a comparison is made with, the source's own at the source
-pub record Comparable (source : Three) (reported : List Three) (tol : ℕ) : Type 0 where
-  pub first : getD reported 0 zero3 ≡ source
-  pub each : (k : ℕ) → Within3 2000000 (getD reported k zero3)
-  pub small : tol ≤ 1000
-
--- x and y differ by more than tol
-abbrev pub differ : ℕ → Three → Three → Bool
-differ tol x y = not (all (λ p. close tol (at x p) (at y p)) abc)
-
--- node k is off, and some node above it is: u are the worked voltages
-abbrev pub offAt : ℕ → List Three → List Three → ℕ → Bool
-offAt tol u reported k = differ tol (getD u k zero3) (getD reported k zero3)
-
-abbrev pub belowOffAt : Feeder → ℕ → List Three → List Three → ℕ → Bool
-belowOffAt f tol u reported k = downward (λ m b. cond (offAt tol u reported (parent f m)) true b) false (parent f) (rowCount f) k
-
--- the report's line of the first node that is off below none
-abbrev pub firstOff : Feeder → ℕ → List Three → List Three → Found
-firstOff f tol u reported = firstRow (λ (j k : ℕ). offAt tol u reported k && not (belowOffAt f tol u reported k)) 1 1 (0 ∷ rowsOf f)
-
--- a mark for each node that is off or below one: below a node is what is marked at its parent
-pub record MarksAre (f : Feeder) (branches : List Branch) (rows : ℕ) (i reported : List Three) (tol : ℕ) (off : List Bool) : Type 0 where
-  pub mark : (k : ℕ) → k < rows + 1 → getD off k false ≡ cond (offAt tol (voltages f i) reported k) true (belowOffAt f tol (voltages f i) reported k)
-  pub parent-mark : (k : ℕ) → 0 < k → k < rows + 1 → getD off (parentIn branches k) false ≡ belowOffAt f tol (voltages f i) reported k
-
-abbrev pub firstMarked : List Branch → ℕ → List Bool → Found
-firstMarked branches rows off = firstRow (λ (j k : ℕ). getD off k false && not (getD off (parentIn branches k) false)) 1 1 (0 ∷ count 1 rows)
 
 -- ---- losses
 -- each row's, row k at place k, and their sum

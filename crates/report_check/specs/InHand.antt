@@ -17,7 +17,8 @@ use Rattle.feeder.specs.declared.Network.{Network}
 use Rattle.feeder.specs.declared.Three.{Three}
 use Rattle.integers.specs.Pairs.{0c}
 use Rattle.integers.specs.declared.Pair.{Pair}
-use Rattle.passes.specs.Passes.{Comparable, LossesAre, differ, firstOff}
+use Rattle.deviations.specs.Deviations.{Comparable, differ, firstOff}
+use Rattle.passes.specs.Passes.{LossesAre}
 use Rattle.passes.specs.Same.{Same, currents-same, drawn-same, load-beyond-same, loss-same, lost-same, same-currents, same-kept, voltages-same, zero-voltage-same}
 use Rattle.radial.specs.Radial.{parentIn}
 use Rattle.report.specs.Report.{Reported, reportedVoltages}

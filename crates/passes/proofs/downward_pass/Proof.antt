@@ -9,8 +9,8 @@ use Rattle.equations.specs.Equations.{zero3}
 use Rattle.equations.specs.Sizes.{Within3, beyond3-false, within3-more}
 use Rattle.feeder.specs.declared.Branch.{Branch}
 use Rattle.feeder.specs.declared.Three.{Three}
-use Rattle.passes.proofs.Along.{Turn, turn}
-use Rattle.passes.proofs.Lower.{Lowered, below-is, lowered-all, lowered-beyond, lowered-first, lowered-next, sized-next, source-first}
+use Rattle.passes.specs.Along.{Turn, turn}
+use Rattle.passes.specs.Lower.{Lowered, below-is, lowered-all, lowered-beyond, lowered-first, lowered-next, sized-next, source-first}
 use Rattle.radial.specs.Radial.{parentIn}
 use borrow.Author.Needs.{needs}
 use native.Mathlib.Omega.{arith}

@@ -10,7 +10,7 @@ use Rattle.equations.specs.Sizes.{Within3}
 use Rattle.feeder.specs.declared.Branch.{Branch}
 use Rattle.feeder.specs.declared.Three.{Three}
 use Rattle.integers.specs.PairLaws.{Within, within-more}
-use Rattle.passes.proofs.Lift.{more}
+use Rattle.passes.specs.Arrays.{more}
 use Rattle.passes.proofs.Losing.{Lost, lossIn, lost-all, lost-next, lost-none, lost-small}
 use borrow.Author.Needs.{needs}
 use native.Mathlib.Omega.{arith}

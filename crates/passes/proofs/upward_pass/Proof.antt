@@ -11,9 +11,10 @@ use Rattle.feeder.specs.declared.Branch.{Branch}
 use Rattle.feeder.specs.declared.Three.{Three}
 use Rattle.integers.specs.Bools.{clash}
 use Rattle.passes.specs.Passes.{Sized}
-use Rattle.passes.proofs.Along.{Turn, turn}
+use Rattle.passes.specs.Along.{Turn, turn}
 use Rattle.passes.proofs.Gather.{taken}
-use Rattle.passes.proofs.Lift.{Fine, Gathered, all-fine, gathered-all, gathered-beyond, gathered-first, gathered-next, more3}
+use Rattle.passes.specs.Arrays.{more3}
+use Rattle.passes.proofs.Lift.{Fine, Gathered, all-fine, gathered-all, gathered-beyond, gathered-first, gathered-next}
 use Rattle.radial.specs.Radial.{parentIn}
 use borrow.Author.Needs.{needs}
 use native.Mathlib.Omega.{arith}

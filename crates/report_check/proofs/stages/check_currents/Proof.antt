@@ -6,7 +6,7 @@ use Rattle.equations.specs.Equations.{voltages}
 use Rattle.feeder.specs.Feeder.{Feeder}
 use Rattle.feeder.specs.declared.Network.{Network}
 use Rattle.passes.specs.Arrays.{held-in}
-use Rattle.passes.specs.Passes.{firstOff}
+use Rattle.deviations.specs.Deviations.{firstOff}
 use Rattle.report.specs.Report.{Reported}
 use Rattle.compare.specs.Differences.{currentDiffers}
 use Rattle.report_check.specs.Check.{voltageOff}

@@ -15,7 +15,7 @@ use Rattle.feeder.specs.declared.Three.{Three}
 use Rattle.integers.specs.Bools.{clash}
 use Rattle.passes.specs.Arrays.{keeps, no-row, rank-most, same?, some-row, to-source, voltage-in, voltages-length}
 use Rattle.passes.specs.Passes.{DownwardIs, InArrays, Ready}
-use Rattle.passes.proofs.Along.{Done, done-next, turn, worked}
+use Rattle.passes.specs.Along.{Done, done-next, turn, worked}
 use Rattle.radial.specs.Radial.{parentIn}
 
 -- V of node j, from what stands at its parent and the current of its branch

@@ -1,4 +1,4 @@
--- `passes::first_marked` meets its contract: no node passed is marked below one that is not. Assumes nothing.
+-- `deviations::first_marked` meets its contract: no node passed is marked below one that is not. Assumes nothing.
 use Prim.Native.Nat.{_+_, _-_, _<_, _≤_, ℕ}
 use borrow.Author.Count.{below-more}
 use mathlib.Core.Bool.{_&&_, Bool, false, not}
@@ -9,12 +9,12 @@ use lib.ListN.{getD}
 use Rattle.arrays.specs.Arrays.{branchesOf}
 use Rattle.feeder.specs.RowLaws.{none-nodes}
 use Rattle.feeder.specs.declared.Branch.{Branch}
 use Rattle.passes.specs.Nodes.{first-node}
 use Rattle.radial.specs.Radial.{parentIn}
 use borrow.Author.Needs.{needs}
 use native.Mathlib.Omega.{arith}
-use Rattle.passes.proofs.first_marked.Statement.{statement}
-use Rattle.passes.proofs.first_marked.Tie as tie
+use Rattle.deviations.proofs.first_marked.Statement.{statement}
+use Rattle.deviations.proofs.first_marked.Tie as tie
 
 -- node k is marked, and its parent is not
 abbrev bad : List Branch → List Bool → ℕ → Bool

@@ -1,4 +1,4 @@
--- `passes::mark_off` meets its contract: the nodes that are done have the voltages and marks that follow from those above them. Assumes nothing.
+-- `deviations::mark_off` meets its contract: the nodes that are done have the voltages and marks that follow from those above them. Assumes nothing.
 use Prim.Native.Nat.{_+_, _-_, _<_, _≤_, ℕ}
 use native.Mathlib.Numerals.{add-one}
 use mathlib.Core.Bool.{false, not}
@@ -15,14 +15,14 @@ use Rattle.feeder.specs.declared.Branch.{Branch}
 use Rattle.feeder.specs.declared.Three.{Three}
 use Rattle.integers.specs.Lists.{all}
 use Rattle.integers.specs.Pairs.{close}
-use Rattle.passes.proofs.Along.{Turn, turn}
-use Rattle.passes.proofs.Lower.{below-is}
-use Rattle.passes.proofs.Marks.{MarkedTo, marked-below, marked-first, marked-worked, marks-are}
+use Rattle.passes.specs.Along.{Turn, turn}
+use Rattle.passes.specs.Lower.{below-is}
+use Rattle.deviations.proofs.Marks.{MarkedTo, marked-below, marked-first, marked-worked, marks-are}
 use Rattle.radial.specs.Radial.{parentIn}
 use borrow.Author.Needs.{needs}
 use native.Mathlib.Omega.{arith}
-use Rattle.passes.proofs.mark_off.Statement.{statement}
-use Rattle.passes.proofs.mark_off.Tie as tie
+use Rattle.deviations.proofs.mark_off.Statement.{statement}
+use Rattle.deviations.proofs.mark_off.Tie as tie
 
 abbrev Inv-loop : tie.InvT-loop
 Inv-loop branches rows order rank i reported tol v₀ off₀ k₀ v off k =

@@ -1,10 +1,10 @@
--- `passes::compare_pass` meets its contract: a node that is marked below one that is not is off below none. Assumes nothing.
+-- `deviations::compare_pass` meets its contract: a node that is marked below one that is not is off below none. Assumes nothing.
 use mathlib.Core.Path.{_∙_}
 use Rattle.arrays.specs.Arrays.{branchesOf, threesOf}
-use Rattle.passes.specs.Nodes.{marked-off}
+use Rattle.deviations.specs.Marked.{marked-off}
 use borrow.Author.Needs.{needs}
-use Rattle.passes.proofs.compare_pass.Statement.{statement}
-use Rattle.passes.proofs.compare_pass.Tie as tie
+use Rattle.deviations.proofs.compare_pass.Statement.{statement}
+use Rattle.deviations.proofs.compare_pass.Tie as tie
 
 mark-off-requires : tie.Need-mark-off-requires
 mark-off-requires c κs = search needs

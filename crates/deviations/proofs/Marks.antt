@@ -15,11 +15,12 @@ use Rattle.feeder.specs.declared.Three.{Three}
 use Rattle.integers.specs.Bools.{clash}
 use Rattle.integers.specs.PairLaws.{Close, close-true, true-same}
 use Rattle.integers.specs.Pairs.{same}
 use Rattle.passes.specs.Arrays.{branch-in, rank-most, same?, to-source, voltage-in, voltage-next}
-use Rattle.passes.specs.Passes.{Comparable, InArrays, MarksAre, Ready, belowOffAt, differ, offAt}
-use Rattle.passes.proofs.Along.{Done, Turn, done-at, done-next, turn}
-use Rattle.passes.proofs.Lift.{more3}
-use Rattle.passes.proofs.Lower.{below, sized-next}
+use Rattle.deviations.specs.Deviations.{Comparable, MarksAre, belowOffAt, differ, offAt}
+use Rattle.passes.specs.Passes.{InArrays, Ready}
+use Rattle.passes.specs.Along.{Done, Turn, done-at, done-next, turn}
+use Rattle.passes.specs.Arrays.{more3}
+use Rattle.passes.specs.Lower.{below, sized-next}
 use Rattle.radial.specs.Radial.{parentIn}
 
 -- node j: its voltage follows from its parent's, where that is not marked, and its mark from the two

@@ -1,0 +1,2 @@
+pub mod Deviations
+pub mod Marked
