@@ -27,7 +27,8 @@ use Rattle.report.specs.Report.{Reported, reportedCurrents, reportedLosses, rep
 use Rattle.compare.specs.Differences.{currentDiffers, nameAtNode, nameDiffers, noRow, same3, sourceDiffers, totalDiffers}
 use Rattle.compare.specs.Compare.{absentDiffers, absentZero, lossesSame, namesDiffer, nodeNameDiffers, nodeScan, phasesIn, rowScan, threeDiffers}
 use Rattle.compare.specs.Scans.{by-number, same-all, same-rows}
-use Rattle.report_reader.specs.Read.{ReportHeld, ReportRead, pairFrom}
+use Rattle.report_reader.specs.Read.{ReportHeld, ReportRead}
+use Rattle.report_tables.specs.TablesRead.{pairFrom}
 use Rattle.text.specs.Lines.{Row, wordOf}
 
 -- what an array has at a place

@@ -14,7 +14,8 @@ ghost use Rattle.equations.specs.Equations.{drawnPower, lossOf, lostPower, sour
 ghost use Rattle.arrays.specs.Arrays.{branchesOf, pairsOf, threesOf};
 ghost use Rattle.radial.specs.Radial.{parentIn};
 ghost use Rattle.report.specs.Report.{Reported};
-ghost use Rattle.report_reader.specs.Read.{ReportHeld, ReportRead, pairFrom};
+ghost use Rattle.report_reader.specs.Read.{ReportHeld, ReportRead};
+ghost use Rattle.report_tables.specs.TablesRead.{pairFrom};
 ghost use Rattle.compare.specs.Differences.{currentDiffers, nameDiffers, same3, sourceDiffers, totalDiffers};
 ghost use Rattle.compare.specs.Compare.{absentDiffers, absentZero, lossesSame, namesDiffer, nodeNameDiffers, nodeScan, rowScan, threeDiffers};
 use answers::Found;

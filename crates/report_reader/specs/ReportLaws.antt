@@ -20,10 +20,11 @@ use Rattle.feeder.specs.declared.Three.{Three}
 use Rattle.equations.specs.Equations.{zero3}
 use Rattle.equations.specs.Sizes.{Within3, within3-zero}
 use Rattle.report.specs.Report.{Reported, lastRow, reportOf, reportedCurrents, reportedLosses, reportedVoltages, tableOf}
-use Rattle.report_reader.specs.Read.{ReportHeld, ReportIs, ReportRead, TableHeld, TableRead, TotalsHeld, columnOf, rowInside, unused, unusedCount}
-use Rattle.report_reader.specs.RowLaws.{row-within}
-use Rattle.report_reader.specs.TableLaws.{unused-length}
-use Rattle.report_reader.specs.declared.totals.Totals.{Totals}
+use Rattle.report_reader.specs.Read.{ReportHeld, ReportIs, ReportRead}
+use Rattle.report_tables.specs.TablesRead.{TableHeld, TableRead, TotalsHeld, columnOf, rowInside, unused, unusedCount}
+use Rattle.report_tables.specs.RowLaws.{row-within}
+use Rattle.report_tables.specs.TableLaws.{unused-length}
+use Rattle.report_tables.specs.declared.totals.Totals.{Totals}
 
 abbrev pub nodeTable : ℕ → List ℕ → Outcome (Placed (List Row))
 nodeTable n s = tableOf "node,va_re,va_im,vb_re,vb_im,vc_re,vc_im\n" n 1 6 s

@@ -8,16 +8,12 @@ ghost use Rattle.arrays.specs.Arrays.{noNumbers};
 ghost use Rattle.feeder.specs.Feeder.{Feeder, between, rowCount};
 ghost use Rattle.report.specs.Report.{reportOf};
 ghost use Rattle.report_reader.specs.Read.{ReportIs, reportRead};
-use crate::rows::read_table;
-use crate::totals::read_totals;
 use arrays::Names;
 use arrays::Pairs;
 use arrays::Threes;
 use integers::whole;
-
-pub mod fields;
-pub mod rows;
-pub mod totals;
+use report_tables::rows::read_table;
+use report_tables::totals::read_totals;
 
 // Whether the number of sweeps is 1 to the limit.
 fn sweeps_in(sweeps: i64, limit: usize) -> bool

@@ -7,7 +7,7 @@ use borrow.Author.Tests.{not-false, not-true}
 use Rattle.arrays.specs.Arrays.{pairsOf}
 use Rattle.integers.specs.Pairs.{same}
 use Rattle.integers.specs.declared.Pair.{Pair}
-use Rattle.report_reader.specs.Read.{pairFrom}
+use Rattle.report_tables.specs.TablesRead.{pairFrom}
 use Rattle.compare.specs.Tied.{totals-tied}
 use Rattle.compare.proofs.totals_differ.Statement.{statement}
 use Rattle.compare.proofs.totals_differ.Tie as tie

@@ -14,7 +14,7 @@ use Rattle.text.specs.Text.{bytes}
 use Rattle.text.specs.TextLaws.{part-from}
 use Rattle.feeder.specs.Feeder.{between, rowCount}
 use Rattle.report.specs.Report.{lastRow}
-use Rattle.report_reader.specs.Read.{TableHeld, TableIs, TableRead, TotalsAre, TotalsHeld, tableRead}
+use Rattle.report_tables.specs.TablesRead.{TableHeld, TableIs, TableRead, TotalsAre, TotalsHeld, tableRead}
 use Rattle.report_reader.specs.ReportLaws.{accepts, branchTable, by-tests, made-pairs, made-threes, no-branches, no-nodes, no-totals, nodeTable, not-read}
 use Rattle.report_reader.proofs.read_report.Statement.{statement}
 use Rattle.report_reader.proofs.read_report.Tie as tie

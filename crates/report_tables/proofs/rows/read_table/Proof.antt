@@ -1,4 +1,4 @@
--- `report_reader::rows::read_table` meets its contract: the line of names, the rows, the empty line. Assumes nothing.
+-- `report_tables::rows::read_table` meets its contract: the line of names, the rows, the empty line. Assumes nothing.
 use mathlib.Core.Bool.{false, true}
 use mathlib.Core.List.{List}
 use mathlib.Core.Path.{_∙_, _≡_, ap, refl, sym}
@@ -13,11 +13,11 @@ use Rattle.answers.specs.declared.Refusal.the-variants.{ReportLayout}
 use Rattle.text.specs.LineLaws.{begins-within}
 use Rattle.text.specs.Text.{begins, bytes}
 use Rattle.report.specs.Report.{rowsJust}
-use Rattle.report_reader.specs.AnswerLaws.{held-answer, refused-answer}
-use Rattle.report_reader.specs.Read.{TableHeld, TableRead, nameCount, tableRead, valueCount}
-use Rattle.report_reader.specs.TableLaws.{table-held, table-no-end, table-no-names, table-no-rows}
-use Rattle.report_reader.proofs.rows.read_table.Statement.{statement}
-use Rattle.report_reader.proofs.rows.read_table.Tie as tie
+use Rattle.report_tables.specs.AnswerLaws.{held-answer, refused-answer}
+use Rattle.report_tables.specs.TablesRead.{TableHeld, TableRead, nameCount, tableRead, valueCount}
+use Rattle.report_tables.specs.TableLaws.{table-held, table-no-end, table-no-names, table-no-rows}
+use Rattle.report_tables.proofs.rows.read_table.Statement.{statement}
+use Rattle.report_tables.proofs.rows.read_table.Tie as tie
 
 -- the line of names stands
 standing : (c : tie.Else1) → begins (c .before .before .before .before .args .header .now) (c .before .before .before .before .args .part .now) ≡ true

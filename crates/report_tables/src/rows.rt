@@ -4,7 +4,7 @@ ghost use mathlib.Core.Bool.{_&&_};
 ghost use Prim.Native.Nat.{_+_, _<_, _≤_};
 ghost use lib.ListN.{length};
 ghost use Rattle.report.specs.Report.{rowsJust};
-ghost use Rattle.report_reader.specs.Read.{Empty, NamedTable, TableIs, nameCount, tableRead, unusedCount, valueCount};
+ghost use Rattle.report_tables.specs.TablesRead.{Empty, NamedTable, TableIs, nameCount, tableRead, unusedCount, valueCount};
 use crate::fields::read_row;
 use arrays::Names;
 use arrays::Pairs;

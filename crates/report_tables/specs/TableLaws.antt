@@ -23,8 +23,8 @@ use Rattle.feeder.specs.NetworkLaws.{kept-next}
 use Rattle.feeder.specs.declared.Three.{Three}
 use Rattle.equations.specs.Equations.{zero3}
 use Rattle.report.specs.Report.{rowsJust, tableOf}
-use Rattle.report_reader.specs.Read.{Blank, Empty, RowHeld, RowsHeld, TableHeld, TableRead, columnOf, nameCount, rowAt, rowInside, tableRead, unused, unusedCount, valueCount}
-use Rattle.report_reader.specs.declared.fields.RowRead.{RowRead}
+use Rattle.report_tables.specs.TablesRead.{Blank, Empty, RowHeld, RowsHeld, TableHeld, TableRead, columnOf, nameCount, rowAt, rowInside, tableRead, unused, unusedCount, valueCount}
+use Rattle.report_tables.specs.declared.fields.RowRead.{RowRead}
 
 -- ---- the rows read so far, in front of those that come
 abbrev behind : List Row → Outcome (Placed (List Row)) → Outcome (Placed (List Row))

@@ -4,7 +4,7 @@ ghost use mathlib.Core.Bool.{false, true};
 ghost use Prim.Native.Nat.{_+_, _<_, _≤_};
 ghost use lib.ListN.{length};
 ghost use Rattle.feeder.specs.Feeder.{threeAt};
-ghost use Rattle.report_reader.specs.Read.{RowIs, pairFrom, within3};
+ghost use Rattle.report_tables.specs.TablesRead.{RowIs, pairFrom, within3};
 use feeder::Three;
 use integers::Pair;
 use integers::pairs::within;

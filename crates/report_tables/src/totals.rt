@@ -1,6 +1,6 @@
 // The last table: one row, at the end of the report.
 ghost use Rattle.report.specs.Report.{lastRow};
-ghost use Rattle.report_reader.specs.Read.{TotalsAre};
+ghost use Rattle.report_tables.specs.TablesRead.{TotalsAre};
 use text::lines::Next;
 use text::lines::read_numbers;
 use text::lines::stands;

@@ -1,4 +1,4 @@
--- `report_reader::fields::read_node` meets its contract: field by field, what was read is what the definition reads. Assumes nothing.
+-- `report_tables::fields::read_node` meets its contract: field by field, what was read is what the definition reads. Assumes nothing.
 use mathlib.Core.Path.{_∙_, _≡_, refl, sym}
 use native.Mathlib.Omega.{arith}
 use borrow.Author.Needs.{needs}
@@ -7,10 +7,10 @@ use Rattle.text.specs.LineLaws.{names-stop, row-stop}
 use Rattle.text.specs.Text.{nameAt}
 use Rattle.text.specs.declared.Word.the-variants.{Name}
 use Rattle.text.specs.declared.lines.Next.the-variants.{Bad}
-use Rattle.report_reader.specs.AnswerLaws.{held-answer, refused-answer}
-use Rattle.report_reader.specs.RowLaws.{node-held, node-names, row-as}
-use Rattle.report_reader.proofs.fields.read_node.Statement.{statement}
-use Rattle.report_reader.proofs.fields.read_node.Tie as tie
+use Rattle.report_tables.specs.AnswerLaws.{held-answer, refused-answer}
+use Rattle.report_tables.specs.RowLaws.{node-held, node-names, row-as}
+use Rattle.report_tables.proofs.fields.read_node.Statement.{statement}
+use Rattle.report_tables.proofs.fields.read_node.Tie as tie
 
 -- the name that was read
 name : (c : tie.After-known-told) → nameAt 44 (c .before .before .before .before .before .args .s .now) (c .before .before .before .before .before .args .at) ≡ Name (c .before .first .given .0 .0) (c .before .first .given .0 .1 .0)

@@ -4,7 +4,7 @@ use mathlib.Core.Path.{_≡_}
 use Rattle.answers.specs.Answers.{Outcome, refused}
 use Rattle.answers.specs.declared.Refusal.the-variants.{ReportLayout}
 use Rattle.integers.specs.Bools.{clash}
-use Rattle.report_reader.specs.Read.{Answer}
+use Rattle.report_tables.specs.TablesRead.{Answer}
 
 pub held-answer : {X : Type 0} {o : Outcome X} {ok : Bool} {H : Type 0} → H → ok ≡ true → Answer o ok H
 held-answer {ok = ok} h e = record { held = λ t. h; refusal = λ t. clash ok e t }

@@ -1,4 +1,4 @@
--- `report_reader::fields::read_branch` meets its contract: field by field, what was read is what the definition reads. Assumes nothing.
+-- `report_tables::fields::read_branch` meets its contract: field by field, what was read is what the definition reads. Assumes nothing.
 use mathlib.Core.List.{[], _∷_}
 use mathlib.Core.Path.{_∙_, _≡_, refl, sym}
 use native.Mathlib.Omega.{arith}
@@ -10,10 +10,10 @@ use Rattle.text.specs.Lines.{names}
 use Rattle.text.specs.Text.{nameAt}
 use Rattle.text.specs.declared.Word.the-variants.{Name}
 use Rattle.text.specs.declared.lines.Next.the-variants.{Bad}
-use Rattle.report_reader.specs.AnswerLaws.{held-answer, refused-answer}
-use Rattle.report_reader.specs.RowLaws.{branch-held, branch-names, row-as, second-missing}
-use Rattle.report_reader.proofs.fields.read_branch.Statement.{statement}
-use Rattle.report_reader.proofs.fields.read_branch.Tie as tie
+use Rattle.report_tables.specs.AnswerLaws.{held-answer, refused-answer}
+use Rattle.report_tables.specs.RowLaws.{branch-held, branch-names, row-as, second-missing}
+use Rattle.report_tables.proofs.fields.read_branch.Statement.{statement}
+use Rattle.report_tables.proofs.fields.read_branch.Tie as tie
 
 -- the name that was read, and both
 name : (c : tie.After-known-told) → nameAt 44 (c .before .before .before .before .before .args .s .now) (c .before .before .before .before .before .args .at) ≡ Name (c .before .first .given .0 .0) (c .before .first .given .0 .1 .0)

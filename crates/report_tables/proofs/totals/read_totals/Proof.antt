@@ -1,14 +1,14 @@
--- `report_reader::totals::read_totals` meets its contract: the line of names, the row, the end of the report. Assumes nothing.
+-- `report_tables::totals::read_totals` meets its contract: the line of names, the row, the end of the report. Assumes nothing.
 use mathlib.Core.Bool.{true}
 use mathlib.Core.Path.{_∙_, _≡_, refl, sym}
 use borrow.Author.Needs.{needs}
 use borrow.Author.Tests.{not-false, not-true}
 use Rattle.answers.specs.declared.Refusal.the-variants.{ReportLayout}
 use Rattle.text.specs.Text.{begins, bytes}
-use Rattle.report_reader.specs.AnswerLaws.{held-answer, refused-answer}
-use Rattle.report_reader.specs.LastLaws.{last-bad, last-more, last-no-names, last-whole}
-use Rattle.report_reader.proofs.totals.read_totals.Statement.{statement}
-use Rattle.report_reader.proofs.totals.read_totals.Tie as tie
+use Rattle.report_tables.specs.AnswerLaws.{held-answer, refused-answer}
+use Rattle.report_tables.specs.LastLaws.{last-bad, last-more, last-no-names, last-whole}
+use Rattle.report_tables.proofs.totals.read_totals.Statement.{statement}
+use Rattle.report_tables.proofs.totals.read_totals.Tie as tie
 
 -- the line of names stands
 names : (c : tie.Else1) → begins (bytes "sweeps,source_p,source_q,drawn_p,drawn_q,lost_p,lost_q\n") (c .before .before .before .before .args .part .now) ≡ true

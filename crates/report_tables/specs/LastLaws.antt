@@ -15,7 +15,7 @@ use Rattle.text.specs.Text.{begins, bytes}
 use Rattle.text.specs.declared.lines.Next.the-variants.{Bad, Behind}
 use Rattle.text.specs.declared.lines.Next.{Next}
 use Rattle.report.specs.Report.{lastRow}
-use Rattle.report_reader.specs.RowLaws.{row-as, rowOf}
+use Rattle.report_tables.specs.RowLaws.{row-as, rowOf}
 
 module _ (s : List ℕ) where
   pub last-no-names : begins (bytes "sweeps,source_p,source_q,drawn_p,drawn_q,lost_p,lost_q\n") s ≡ false → lastRow s ≡ refused ReportLayout

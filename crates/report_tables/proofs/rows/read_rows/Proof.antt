@@ -1,14 +1,14 @@
--- `report_reader::rows::read_rows` meets its contract: at each turn the arrays hold the rows read so far, and the rows that are left are behind them. Assumes nothing.
+-- `report_tables::rows::read_rows` meets its contract: at each turn the arrays hold the rows read so far, and the rows that are left are behind them. Assumes nothing.
 use mathlib.Core.Path.{refl}
 use Prim.Native.Nat.{_-_}
 use native.Mathlib.Omega.{arith}
 use borrow.Author.Needs.{needs}
 use borrow.Author.Tests.{not-false, not-true}
-use Rattle.report_reader.specs.AnswerLaws.{held-answer, refused-answer}
-use Rattle.report_reader.specs.Read.{tableRead}
-use Rattle.report_reader.specs.TableLaws.{Going, going-end, going-next, going-start, going-stop}
-use Rattle.report_reader.proofs.rows.read_rows.Statement.{statement}
-use Rattle.report_reader.proofs.rows.read_rows.Tie as tie
+use Rattle.report_tables.specs.AnswerLaws.{held-answer, refused-answer}
+use Rattle.report_tables.specs.TablesRead.{tableRead}
+use Rattle.report_tables.specs.TableLaws.{Going, going-end, going-next, going-start, going-stop}
+use Rattle.report_tables.proofs.rows.read_rows.Statement.{statement}
+use Rattle.report_tables.proofs.rows.read_rows.Tie as tie
 
 abbrev Inv-loop : tie.InvT-loop
 Inv-loop part from count branch first₀ second₀ threes₀ pairs₀ t₀ k₀ last first second threes pairs t k = Going branch part from count last (tableRead t first second threes pairs) k

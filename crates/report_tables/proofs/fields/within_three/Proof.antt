@@ -1,10 +1,10 @@
--- `report_reader::fields::within_three` meets its contract: the phases are tested one after the other. Assumes nothing.
+-- `report_tables::fields::within_three` meets its contract: the phases are tested one after the other. Assumes nothing.
 use mathlib.Core.Path.{_∙_, sym}
 use borrow.Author.Needs.{needs}
 use borrow.Author.Tests.{not-false, not-true}
 use Rattle.integers.specs.Bools.{and-no, and-yes}
-use Rattle.report_reader.proofs.fields.within_three.Statement.{statement}
-use Rattle.report_reader.proofs.fields.within_three.Tie as tie
+use Rattle.report_tables.proofs.fields.within_three.Statement.{statement}
+use Rattle.report_tables.proofs.fields.within_three.Tie as tie
 
 within-requires : tie.Need-within-requires
 within-requires c κs = search needs

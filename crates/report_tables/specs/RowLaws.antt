@@ -25,8 +25,8 @@ use Rattle.text.specs.declared.lines.Next.the-variants.{Bad, Behind}
 use Rattle.text.specs.declared.lines.Next.{Next}
 use Rattle.feeder.specs.Feeder.{pairAt, threeAt}
 use Rattle.equations.specs.Sizes.{Within3}
-use Rattle.report_reader.specs.Read.{RowHeld, nameCount, rowInside, valueCount, within3}
-use Rattle.report_reader.specs.declared.fields.RowRead.{RowRead}
+use Rattle.report_tables.specs.TablesRead.{RowHeld, nameCount, rowInside, valueCount, within3}
+use Rattle.report_tables.specs.declared.fields.RowRead.{RowRead}
 
 -- ---- the test on three pairs is that on the first six numbers
 six-inside : (l : List ℤ) → within3 2000000 (threeAt l 1) ≡ all (inside 2000000) (take 6 l)

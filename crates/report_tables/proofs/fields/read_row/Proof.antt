@@ -1,7 +1,7 @@
--- `report_reader::fields::read_row` meets its contract: one table or the other. Assumes nothing.
+-- `report_tables::fields::read_row` meets its contract: one table or the other. Assumes nothing.
 use borrow.Author.Needs.{needs}
-use Rattle.report_reader.proofs.fields.read_row.Statement.{statement}
-use Rattle.report_reader.proofs.fields.read_row.Tie as tie
+use Rattle.report_tables.proofs.fields.read_row.Statement.{statement}
+use Rattle.report_tables.proofs.fields.read_row.Tie as tie
 
 read-branch-requires : tie.Need-read-branch-requires
 read-branch-requires c κs = search needs

@@ -1,7 +1,7 @@
--- `report_reader::fields::three_of` meets its contract: a pair for each phase. Assumes nothing.
+-- `report_tables::fields::three_of` meets its contract: a pair for each phase. Assumes nothing.
 use borrow.Author.Needs.{needs}
-use Rattle.report_reader.proofs.fields.three_of.Statement.{statement}
-use Rattle.report_reader.proofs.fields.three_of.Tie as tie
+use Rattle.report_tables.proofs.fields.three_of.Statement.{statement}
+use Rattle.report_tables.proofs.fields.three_of.Tie as tie
 
 pair-of-requires : tie.Need-pair-of-requires
 pair-of-requires c κs = search needs

@@ -1,0 +1,7 @@
+-- Definitions
+pub mod TablesRead
+-- Laws
+pub mod AnswerLaws
+pub mod RowLaws
+pub mod TableLaws
+pub mod LastLaws
