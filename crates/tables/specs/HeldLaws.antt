@@ -1,31 +1,17 @@
 -- The arrays of a table: as they are made, and with one row more. Assumes nothing.
 use mathlib.Core.List.{List, [], _++_, _∷_, map}
 use mathlib.Core.Path.{_≡_, _∙_, ap, ap₂, refl, sym}
-use Prim.Native.Nat.{_+_, _<_, _≤_, suc, zero, ℕ}
+use Prim.Native.Nat.{_+_, _<_, _≤_, suc, ℕ}
 use native.Mathlib.Omega.{arith}
-use lib.IntN.{pos, ℤ}
-use lib.ListN.{getD, length, length-map, replicate, set}
+use lib.IntN.{ℤ}
+use lib.ListN.{length, length-map, replicate, set}
 use Rattle.arrays.specs.ArrayLaws.{blank-kept}
 use Rattle.arrays.specs.Arrays.{branchNumbers, loadNumbers, noNumbers}
 use Rattle.feeder.specs.Network.{kept}
 use Rattle.feeder.specs.NetworkLaws.{kept-full, kept-next}
 use Rattle.feeder.specs.declared.BranchRow.{BranchRow}
 use Rattle.feeder.specs.declared.LoadRow.{LoadRow}
-use Rattle.integers.specs.Lists.{tab}
 use Rattle.tables.specs.Read.{BranchesHeld, LoadsHeld}
-
--- ---- numbers that are read one by one are the whole
-read-from : (l : List ℤ) (k n : ℕ) (f : ℕ → ℤ) → length l ≡ n → ((j : ℕ) → f (k + j) ≡ getD l j (pos 0)) → tab f k n ≡ l
-unfolding tab
-read-from [] k zero f h e = refl
-read-from [] k (suc n) f h e = absurd (omega arith)
-read-from (x ∷ l) k zero f h e = absurd (omega arith)
-read-from (x ∷ l) k (suc n) f h e =
-    let z : k + 0 ≡ k = omega arith in
-    ap₂ (λ y (r : List ℤ). y ∷ r) (sym (ap f z) ∙ e 0) (read-from l (k + 1) n f (omega arith) (λ j. let w : (k + 1) + j ≡ k + suc j = omega arith in ap f w ∙ e (suc j)))
-
-pub all-read : (l : List ℤ) (n : ℕ) → length l ≡ n → tab (λ k. getD l k (pos 0)) 0 n ≡ l
-all-read l n h = read-from l 0 n (λ k. getD l k (pos 0)) h (λ j. let z : 0 + j ≡ j = omega arith in ap (λ (k : ℕ). getD l k (pos 0)) z)
 
 -- ---- one row more: at the place behind those before it, or nowhere
 map-append : {X Y : Type 0} (f : X → Y) (l : List X) (x : X) → map f (l ++ (x ∷ [])) ≡ map f l ++ (f x ∷ [])

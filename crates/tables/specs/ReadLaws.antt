@@ -1,23 +1,13 @@
--- Laws of the readers' answers. Assumes nothing.
+-- Laws of the table readers' answers. Assumes nothing.
 use mathlib.Core.List.{List}
-use mathlib.Core.Path.{_≡_, _∙_, ap, refl, subst}
+use mathlib.Core.Path.{_≡_, subst}
 use Prim.Native.Nat.{ℕ}
 use native.Mathlib.Omega.{arith}
 use Rattle.answers.specs.Answers.{Outcome, refused}
-use Rattle.answers.specs.declared.Refusal.{Refusal}
 use Rattle.answers.specs.declared.Refusal.the-variants.{Layout}
-use Rattle.arrays.specs.Arrays.{branchNumbers, kindNumber, loadKindNumber, loadNumbers, noNumbers, onNumber, phaseNumber}
-use Rattle.feeder.specs.Network.{noBranchRow, noLoadRow}
-use Rattle.feeder.specs.declared.BranchRow.{BranchRow}
-use Rattle.feeder.specs.declared.LoadRow.{LoadRow}
-use Rattle.text.specs.Lines.{Placed}
-use Rattle.text.specs.declared.lines.Next.{Next}
-use Rattle.text.specs.declared.lines.Next.the-variants.{Behind, Bad}
-use Rattle.tables.specs.Read.{BranchIs, LoadIs, TableAs, TableRead, Whole}
+use Rattle.tables.specs.Read.{TableAs, TableRead, Whole}
 use Rattle.tables.specs.declared.TableEnd.{TableEnd}
 use Rattle.tables.specs.declared.TableEnd.the-variants.{At as Ends, Bad as Fails}
-use Rattle.tables.specs.declared.branches.BranchRead.{BranchRead}
-use Rattle.tables.specs.declared.loads.LoadRead.{LoadRead}
 
 -- a table that fails at a line has no place behind it
 pub no-end : {P : Type 0} (e : TableEnd) (n p : ℕ) → e ≡ Fails n → e ≡ Ends p → P
@@ -30,35 +20,3 @@ module _ {X Y : Type 0} {holds : List X → Type 0} {made : List X → ℕ → Y
 
   pub table-fails : (n : ℕ) → end ≡ Fails n → o ≡ refused (Layout n)
   table-fails n e = subst (λ (z : TableEnd). TableAs holds made o z count) e (h .said)
-
--- where no row was read there is no place behind it
-nowhere : {P : Type 0} (e : Next) (n : ℕ) → e ≡ Bad → e ≡ Behind n → P
-nowhere e n b a = let z : _≡_ {A = ℕ} 0 1 = cc in absurd (omega arith)
-
-abbrev noBranchRead : BranchRead
-noBranchRead = record { end = Bad; from = 0; to = 0; numbers = noNumbers 17 }
-
-abbrev noLoadRead : LoadRead
-noLoadRead = record { end = Bad; node = 0; numbers = noNumbers 6 }
-
--- the answer where there is no row
-pub no-branch-is : (o : Refusal → Outcome (Placed BranchRow)) (t : BranchRead) → t ≡ noBranchRead → ((r : Refusal) → o r ≡ refused r) → BranchIs o t
-unfolding branchNumbers onNumber kindNumber
-no-branch-is o t e h = rw e (record { row = noBranchRow; outcome = h; from = refl; to = refl; numbers = refl })
-
-pub no-branch-end : {P : Type 0} (t : BranchRead) (n : ℕ) → t ≡ noBranchRead → t .end ≡ Behind n → P
-no-branch-end t n e a = nowhere (t .end) n (ap (λ (z : BranchRead). z .end) e) a
-
-pub no-load-is : (o : Refusal → Outcome (Placed LoadRow)) (t : LoadRead) → t ≡ noLoadRead → ((r : Refusal) → o r ≡ refused r) → LoadIs o t
-unfolding loadNumbers phaseNumber loadKindNumber
-no-load-is o t e h = rw e (record { row = noLoadRow; outcome = h; node = refl; numbers = refl })
-
-pub no-load-end : {P : Type 0} (t : LoadRead) (n : ℕ) → t ≡ noLoadRead → t .end ≡ Behind n → P
-no-load-end t n e a = nowhere (t .end) n (ap (λ (z : LoadRead). z .end) e) a
-
--- the answer for another way to the same outcome
-pub branch-is-as : (o q : Refusal → Outcome (Placed BranchRow)) (t : BranchRead) → ((r : Refusal) → o r ≡ q r) → BranchIs q t → BranchIs o t
-branch-is-as o q t e h = record { row = h .row; outcome = λ r. e r ∙ h .outcome r; from = h .from; to = h .to; numbers = h .numbers }
-
-pub load-is-as : (o q : Refusal → Outcome (Placed LoadRow)) (t : LoadRead) → ((r : Refusal) → o r ≡ q r) → LoadIs q t → LoadIs o t
-load-is-as o q t e h = record { row = h .row; outcome = λ r. e r ∙ h .outcome r; node = h .node; numbers = h .numbers }

@@ -18,7 +18,8 @@ use Rattle.feeder.specs.Layout.{branchRow, branchTable, emptyLine, fileEnd, loa
 use Rattle.feeder.specs.declared.BranchRow.{BranchRow}
 use Rattle.feeder.specs.declared.LoadRow.{LoadRow}
 use Rattle.text.specs.LineLaws.{text-missing, text-stands}
-use Rattle.tables.specs.Read.{branchNames, branchesFrom, loadNames, loadsFrom, rowRead, sourceFrom, sourceNames}
+use Rattle.rows.specs.RowRead.{rowRead}
+use Rattle.tables.specs.Read.{branchNames, branchesFrom, loadNames, loadsFrom, sourceFrom, sourceNames}
 
 -- ---- the rows read so far, in front of those that come
 abbrev pub behind : {X : Type 0} → List X → Outcome (Placed (List X)) → Outcome (Placed (List X))

@@ -17,7 +17,6 @@ use arrays::Names;
 pub mod branches;
 pub mod loads;
 pub mod source;
-pub mod words;
 
 // The place behind a table, or the line that cannot stand there.
 pub enum TableEnd {

@@ -3,7 +3,7 @@ ghost use mathlib.Core.Path.{_≡_};
 ghost use Rattle.answers.specs.declared.Refusal.{Refusal};
 ghost use Rattle.text.specs.Lines.{listed};
 ghost use Rattle.feeder.specs.Layout.{phasesWords, kindWords, phaseWords, loadWords};
-ghost use Rattle.tables.specs.Read.{phasesRead, kindRead, phaseRead, loadKindRead};
+ghost use Rattle.rows.specs.RowRead.{phasesRead, kindRead, phaseRead, loadKindRead};
 use feeder::Kind;
 use feeder::LoadKind;
 use feeder::Phase;

@@ -1,4 +1,4 @@
--- `tables::loads::read_load` meets its contract: field by field, what was read is what the definition reads. Assumes nothing.
+-- `rows::loads::read_load` meets its contract: field by field, what was read is what the definition reads. Assumes nothing.
 use native.Mathlib.Omega.{arith}
 use borrow.Author.Needs.{needs}
 use mathlib.Core.Path.{_≡_, _∙_, sym}
@@ -8,9 +8,9 @@ use Rattle.text.specs.Lines.{names, row}
 use Rattle.text.specs.Text.{nameAt}
 use Rattle.text.specs.declared.Word.the-variants.{Name}
 use Rattle.feeder.specs.Layout.{loadRow}
-use Rattle.tables.specs.ReadLaws.{load-is-as, no-load-end, no-load-is}
-use Rattle.tables.proofs.loads.read_load.Statement.{statement}
-use Rattle.tables.proofs.loads.read_load.Tie as tie
+use Rattle.rows.specs.RowReadLaws.{load-is-as, no-load-end, no-load-is}
+use Rattle.rows.proofs.loads.read_load.Statement.{statement}
+use Rattle.rows.proofs.loads.read_load.Tie as tie
 
 -- each name that was read, as the definition has it
 name1 : (c : tie.After-known-told) → let a = c .before .before .before .before .before .args in let x = c .before .node .given .0 in nameAt 44 (a .s .now) (a .at) ≡ Name (x .0) (x .1 .0)

@@ -1,4 +1,4 @@
--- `tables::branches::numbers_of` meets its contract: each number stands at its place. Assumes nothing.
+-- `rows::branches::numbers_of` meets its contract: each number stands at its place. Assumes nothing.
 use borrow.Author.Needs.{needs}
 use mathlib.Core.List.{List, _∷_, []}
 use mathlib.Core.Path.{_≡_, _∙_, ap}
@@ -8,9 +8,9 @@ use mir.Facts.{toZ-ofZ}
 use Rattle.integers.specs.Machine.{read}
 use Rattle.integers.specs.Lists.{tab}
 use Rattle.arrays.specs.Arrays.{kindNumber, onNumber}
-use Rattle.tables.specs.HeldLaws.{all-read}
-use Rattle.tables.proofs.branches.numbers_of.Statement.{statement}
-use Rattle.tables.proofs.branches.numbers_of.Tie as tie
+use Rattle.rows.specs.RowReadLaws.{all-read}
+use Rattle.rows.proofs.branches.numbers_of.Statement.{statement}
+use Rattle.rows.proofs.branches.numbers_of.Tie as tie
 
 -- p1 to p12
 twelve : (c : tie.After-t44) → length (c .before .before .before .before .before .before .before .before .before .before .before .before .before .before .before .before .args .t3) ≡ 12

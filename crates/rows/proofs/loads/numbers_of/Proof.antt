@@ -1,4 +1,4 @@
--- `tables::loads::numbers_of` meets its contract: each number stands at its place. Assumes nothing.
+-- `rows::loads::numbers_of` meets its contract: each number stands at its place. Assumes nothing.
 use borrow.Author.Needs.{needs}
 use mathlib.Core.List.{_∷_, []}
 use mathlib.Core.Path.{_≡_, _∙_}
@@ -6,8 +6,8 @@ use lib.IntN.{pos}
 use lib.ListN.{getD}
 use mir.Facts.{toZ-ofZ}
 use Rattle.integers.specs.Machine.{read}
-use Rattle.tables.proofs.loads.numbers_of.Statement.{statement}
-use Rattle.tables.proofs.loads.numbers_of.Tie as tie
+use Rattle.rows.proofs.loads.numbers_of.Statement.{statement}
+use Rattle.rows.proofs.loads.numbers_of.Tie as tie
 
 -- each of vn, p and q is read as it stands
 number1 : (c : tie.After-t15) → let l = c .before .before .before .before .before .args .t3 in read (getD l 0 (pos 0)) ≡ getD l 0 (pos 0)

@@ -1,4 +1,4 @@
--- `tables::branches::read_branch` meets its contract: field by field, what was read is what the definition reads. Assumes nothing.
+-- `rows::branches::read_branch` meets its contract: field by field, what was read is what the definition reads. Assumes nothing.
 use native.Mathlib.Omega.{arith}
 use borrow.Author.Needs.{needs}
 use mathlib.Core.Path.{_≡_, _∙_, sym}
@@ -8,9 +8,9 @@ use Rattle.text.specs.Lines.{names, row}
 use Rattle.text.specs.Text.{nameAt}
 use Rattle.text.specs.declared.Word.the-variants.{Name}
 use Rattle.feeder.specs.Layout.{branchRow}
-use Rattle.tables.specs.ReadLaws.{branch-is-as, no-branch-end, no-branch-is}
-use Rattle.tables.proofs.branches.read_branch.Statement.{statement}
-use Rattle.tables.proofs.branches.read_branch.Tie as tie
+use Rattle.rows.specs.RowReadLaws.{branch-is-as, no-branch-end, no-branch-is}
+use Rattle.rows.proofs.branches.read_branch.Statement.{statement}
+use Rattle.rows.proofs.branches.read_branch.Tie as tie
 
 -- each name that was read, as the definition has it
 name1 : (c : tie.After-known-told) → let a = c .before .before .before .before .before .args in let x = c .before .from .given .0 in nameAt 44 (a .s .now) (a .at) ≡ Name (x .0) (x .1 .0)

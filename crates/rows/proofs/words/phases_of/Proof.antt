@@ -1,10 +1,10 @@
--- `tables::words::phases_of` meets its contract: the test that holds is the entry that is found. Assumes nothing.
+-- `rows::words::phases_of` meets its contract: the test that holds is the entry that is found. Assumes nothing.
 use borrow.Author.Needs.{needs}
 use borrow.Author.Tests.{eq-eqb, ne-eqb}
 use Rattle.text.specs.Lines.{listed}
 use Rattle.text.specs.Text.{bytes, pack, word}
-use Rattle.tables.proofs.words.phases_of.Statement.{statement}
-use Rattle.tables.proofs.words.phases_of.Tie as tie
+use Rattle.rows.proofs.words.phases_of.Statement.{statement}
+use Rattle.rows.proofs.words.phases_of.Tie as tie
 
 listed-phases-requires : tie.Need-listed-phases-requires
 listed-phases-requires c κs = search needs

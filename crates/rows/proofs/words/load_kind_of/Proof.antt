@@ -1,9 +1,9 @@
--- `tables::words::load_kind_of` meets its contract: the test that holds is the entry that is found. Assumes nothing.
+-- `rows::words::load_kind_of` meets its contract: the test that holds is the entry that is found. Assumes nothing.
 use borrow.Author.Tests.{eq-eqb, ne-eqb}
 use Rattle.text.specs.Lines.{listed}
 use Rattle.text.specs.Text.{bytes, pack, word}
-use Rattle.tables.proofs.words.load_kind_of.Statement.{statement}
-use Rattle.tables.proofs.words.load_kind_of.Tie as tie
+use Rattle.rows.proofs.words.load_kind_of.Statement.{statement}
+use Rattle.rows.proofs.words.load_kind_of.Tie as tie
 
 returns : tie.Need-returns
 unfolding listed word pack bytes

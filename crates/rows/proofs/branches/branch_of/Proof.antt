@@ -1,11 +1,11 @@
--- `tables::branches::branch_of` meets its contract: the two words, and the row that they make. Assumes nothing.
+-- `rows::branches::branch_of` meets its contract: the two words, and the row that they make. Assumes nothing.
 use borrow.Author.Needs.{needs}
 use mathlib.Core.Path.{refl}
 use Rattle.arrays.specs.Arrays.{branchNumbers}
 use Rattle.text.specs.Lines.{row}
-use Rattle.tables.specs.ReadLaws.{no-branch-end, no-branch-is}
-use Rattle.tables.proofs.branches.branch_of.Statement.{statement}
-use Rattle.tables.proofs.branches.branch_of.Tie as tie
+use Rattle.rows.specs.RowReadLaws.{no-branch-end, no-branch-is}
+use Rattle.rows.proofs.branches.branch_of.Statement.{statement}
+use Rattle.rows.proofs.branches.branch_of.Tie as tie
 
 phases-of-requires : tie.Need-phases-of-requires
 phases-of-requires c κs = search needs

@@ -1,11 +1,11 @@
--- `tables::loads::load_of` meets its contract: the two words, and the row that they make. Assumes nothing.
+-- `rows::loads::load_of` meets its contract: the two words, and the row that they make. Assumes nothing.
 use borrow.Author.Needs.{needs}
 use mathlib.Core.Path.{refl}
 use Rattle.arrays.specs.Arrays.{loadNumbers}
 use Rattle.text.specs.Lines.{nth, row}
-use Rattle.tables.specs.ReadLaws.{no-load-end, no-load-is}
-use Rattle.tables.proofs.loads.load_of.Statement.{statement}
-use Rattle.tables.proofs.loads.load_of.Tie as tie
+use Rattle.rows.specs.RowReadLaws.{no-load-end, no-load-is}
+use Rattle.rows.proofs.loads.load_of.Statement.{statement}
+use Rattle.rows.proofs.loads.load_of.Tie as tie
 
 phase-of-requires : tie.Need-phase-of-requires
 phase-of-requires c κs = search needs

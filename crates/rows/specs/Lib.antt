@@ -1,0 +1,2 @@
+pub mod RowRead
+pub mod RowReadLaws
