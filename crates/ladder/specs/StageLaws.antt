@@ -38,7 +38,7 @@ use Rattle.reading.specs.declared.ReadAnswer.the-variants.{Good, Refused}
 use Rattle.reading.specs.declared.Read.{Read}
 use Rattle.report_writer.specs.ReportIs.{Shown}
 use Rattle.report_writer.specs.Tables.{Given}
-use Rattle.report_writer.specs.declared.Figures.{Figures}
+use Rattle.report_lines.specs.declared.Figures.{Figures}
 use Rattle.sweeps.specs.Sweeps.{Known}
 
 -- ---- the whole

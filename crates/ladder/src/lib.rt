@@ -26,7 +26,7 @@ use iteration::solve;
 use passes::loss_pass;
 use reading::ReadAnswer;
 use reading::read_into;
-use report_writer::Figures;
+use report_lines::Figures;
 use report_writer::put_report;
 use report_writer::report_width;
 

@@ -1,6 +1,5 @@
-pub mod Lines
-pub mod LineLaws
 pub mod Tables
+pub mod TableLaws
 pub mod Left
 pub mod Writing
 pub mod ReportIs

@@ -15,9 +15,9 @@ use Rattle.integers.specs.Lists.{count, tab}
 use Rattle.integers.specs.Pairs.{0c}
 use Rattle.integers.specs.declared.Pair.{Pair}
 use Rattle.report.specs.Report.{branchLine, branchesText, joined, nameText, nodeLine, nodesText, pairText, reportText, threeText, totalsLine, totalsText}
-use Rattle.report_writer.specs.Lines.{branchRow, branchTable, linesFrom, nodeRow, nodeTable, pairFields, threeFields, totalsRow, totalsTable}
-use Rattle.report_writer.specs.Tables.{Given, branchLineAt, fromIn, nodeLineAt, wholeText}
-use Rattle.report_writer.specs.declared.Figures.{Figures}
+use Rattle.report_lines.specs.Lines.{branchRow, nodeRow, pairFields, threeFields, totalsRow}
+use Rattle.report_writer.specs.Tables.{branchLineAt, branchTable, fromIn, Given, linesFrom, nodeLineAt, nodeTable, totalsTable, wholeText}
+use Rattle.report_lines.specs.declared.Figures.{Figures}
 use Rattle.text.specs.Text.{bytes, decimal, letters, line}
 
 -- the arrays show the feeder f with its voltages vs and currents is: by node number names, branches, voltages, currents and losses; and the totals

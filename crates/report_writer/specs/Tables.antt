@@ -1,6 +1,5 @@
--- The report's text over the arrays that the code has. Assumes nothing.
-use mathlib.Core.List.{List, _++_}
-use Prim.Native.Nat.{_<_, _≤_, ℕ}
+-- The report's tables over their lines, and its text over the arrays that the code has. Assumes nothing.
+use Prim.Native.Nat.{_-_, _<_, _≤_, suc, ℕ}
 use lib.ListN.{getD}
 use Rattle.equations.specs.Equations.{zero3}
 use Rattle.feeder.specs.Feeder.{noBranch}
@@ -8,9 +7,27 @@ use Rattle.feeder.specs.declared.Branch.{Branch}
 use Rattle.feeder.specs.declared.Three.{Three}
 use Rattle.integers.specs.Pairs.{0c}
 use Rattle.integers.specs.declared.Pair.{Pair}
-use Rattle.report_writer.specs.Lines.{branchRow, branchTable, nodeRow, nodeTable, totalsTable}
-use Rattle.report_writer.specs.declared.Figures.{Figures}
+use mathlib.Core.List.{List, [], _++_, _∷_}
+use Rattle.integers.specs.Lists.{count}
+use Rattle.report.specs.Report.{joined}
+use Rattle.report_lines.specs.Lines.{branchRow, nodeRow, totalsRow}
+use Rattle.report_lines.specs.declared.Figures.{Figures}
+use Rattle.text.specs.Text.{bytes}
 
+-- ---- tables: the lines k to n, and each table with its line of column names
+unfoldable pub linesFrom : (ℕ → List ℕ) → ℕ → ℕ → List ℕ
+linesFrom g k n = joined g (count k (suc n - k))
+
+unfoldable pub nodeTable : (ℕ → List ℕ) → ℕ → List ℕ
+nodeTable g n = bytes "node,va_re,va_im,vb_re,vb_im,vc_re,vc_im\n" ++ (linesFrom g 0 n ++ (10 ∷ []))
+
+unfoldable pub branchTable : (ℕ → List ℕ) → ℕ → List ℕ
+branchTable g n = bytes "from,to,ia_re,ia_im,ib_re,ib_im,ic_re,ic_im,loss_p,loss_q\n" ++ (linesFrom g 1 n ++ (10 ∷ []))
+
+unfoldable pub totalsTable : Figures → List ℕ
+totalsTable g = bytes "sweeps,source_p,source_q,drawn_p,drawn_q,lost_p,lost_q\n" ++ totalsRow g
+
+-- ---- over the arrays
 -- the from-node of branch row k
 abbrev pub fromIn : List Branch → ℕ → ℕ
 fromIn branches k = getD branches k noBranch .from

@@ -4,8 +4,8 @@ use Prim.Native.Nat.{_+_, _<_, _≤_, ℕ}
 use native.Mathlib.Omega.{arith}
 use lib.ListN.{length}
 use Rattle.report_writer.specs.Left.{Left, left-all, left-last, left-next, left-room}
-use Rattle.report_writer.specs.LineLaws.{lines-next, lines-none}
-use Rattle.report_writer.specs.Lines.{linesFrom}
+use Rattle.report_writer.specs.TableLaws.{lines-next, lines-none}
+use Rattle.report_writer.specs.Tables.{linesFrom}
 use Rattle.text.specs.Promises.{Written}
 
 -- the lines k to n, and the empty line

@@ -1,4 +1,4 @@
-// The report's text written into a buffer. specs/Lines.antt and specs/Tables.antt say it over the arrays, and specs/ReportIs.antt that this is the report's text.
+// The report's text written into a buffer. specs/Tables.antt says it over the arrays, and specs/ReportIs.antt that this is the report's text.
 ghost use mathlib.Core.List.{List, _++_};
 ghost use mathlib.Core.Path.{_≡_};
 ghost use Prim.Native.Nat.{_≤_};
@@ -14,7 +14,7 @@ use arrays::Branches;
 use arrays::Names;
 use arrays::Pairs;
 use arrays::Threes;
-use integers::Pair;
+use report_lines::Figures;
 use tables::put_branches;
 use tables::put_nodes;
 use tables::put_totals;
@@ -22,17 +22,8 @@ use widths::branches_width;
 use widths::nodes_width;
 use widths::totals_width;
 
-mod lines;
 mod tables;
 mod widths;
-
-// The numbers of the last line.
-pub struct Figures {
-    pub sweeps: usize,
-    pub source: Pair,
-    pub drawn: Pair,
-    pub lost: Pair,
-}
 
 // How many bytes the report takes. At place k of the arrays stands what belongs to node k, or to the branch that feeds it.
 pub fn report_width(

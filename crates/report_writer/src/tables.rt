@@ -2,13 +2,8 @@
 ghost use Prim.Native.Nat.{_<_, _≤_};
 ghost use lib.ListN.{length};
 ghost use Rattle.arrays.specs.Arrays.{branchesOf, pairsOf, threesOf};
-ghost use Rattle.report_writer.specs.Lines.{branchTable, nodeTable, totalsTable};
-ghost use Rattle.report_writer.specs.Tables.{Linked, branchLineAt, nodeLineAt};
+ghost use Rattle.report_writer.specs.Tables.{branchLineAt, branchTable, Linked, nodeLineAt, nodeTable, totalsTable};
 ghost use Rattle.text.specs.Promises.{Written};
-use crate::Figures;
-use crate::lines::put_branch;
-use crate::lines::put_node;
-use crate::lines::put_totals_line;
 use arrays::Branches;
 use arrays::Names;
 use arrays::Pairs;
@@ -16,6 +11,10 @@ use arrays::Threes;
 use arrays::from_at;
 use arrays::pair_at;
 use arrays::three_at;
+use report_lines::Figures;
+use report_lines::lines::put_branch;
+use report_lines::lines::put_node;
+use report_lines::lines::put_totals_line;
 use text::write::put_byte;
 use text::write::put_bytes;
 

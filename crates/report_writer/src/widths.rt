@@ -1,11 +1,9 @@
-// How many bytes each of the report's lines and tables takes.
+// How many bytes each of the report's tables takes.
 ghost use mathlib.Core.Path.{_≡_};
 ghost use Prim.Native.Nat.{_<_, _≤_};
 ghost use lib.ListN.{length};
 ghost use Rattle.arrays.specs.Arrays.{branchesOf, pairsOf, threesOf};
-ghost use Rattle.report_writer.specs.Lines.{branchRow, branchTable, nodeRow, nodeTable, pairFields, threeFields, totalsRow, totalsTable};
-ghost use Rattle.report_writer.specs.Tables.{Linked, branchLineAt, nodeLineAt};
-use crate::Figures;
+ghost use Rattle.report_writer.specs.Tables.{branchLineAt, branchTable, Linked, nodeLineAt, nodeTable, totalsTable};
 use arrays::Branches;
 use arrays::Names;
 use arrays::Pairs;
@@ -13,58 +11,11 @@ use arrays::Threes;
 use arrays::from_at;
 use arrays::pair_at;
 use arrays::three_at;
-use feeder::Three;
-use integers::Pair;
-use text::write::name_width;
-use text::write::number_width;
+use report_lines::Figures;
+use report_lines::widths::branch_width;
+use report_lines::widths::node_width;
+use report_lines::widths::totals_line_width;
 
-fn pair_width(x: Pair) -> usize
-    ensures { λ r. ⌜ r ≡ length (pairFields x) ⌝ }
-{
-    let re = number_width(x.re);
-    let im = number_width(x.im);
-    re + im + 2
-}
-
-fn three_width(x: Three) -> usize
-    ensures { λ r. ⌜ r ≡ length (threeFields x) ⌝ }
-{
-    let a = pair_width(x.a);
-    let b = pair_width(x.b);
-    let c = pair_width(x.c);
-    a + b + c
-}
-
-pub fn node_width(name: u64, v: Three) -> usize
-    ensures { λ r. ⌜ r ≡ length (nodeRow name v) ⌝ }
-{
-    let letters = name_width(name);
-    let voltages = three_width(v);
-    letters + voltages + 1
-}
-
-pub fn branch_width(from: u64, to: u64, i: Three, loss: Pair) -> usize
-    ensures { λ r. ⌜ r ≡ length (branchRow from to i loss) ⌝ }
-{
-    let upper = name_width(from);
-    let lower = name_width(to);
-    let currents = three_width(i);
-    let powers = pair_width(loss);
-    upper + lower + currents + powers + 2
-}
-
-pub fn totals_line_width(figures: Figures) -> usize
-    requires { ⌜ figures .sweeps < 9223372036854775808 ⌝ }
-    ensures { λ r. ⌜ r ≡ length (totalsRow figures) ⌝ }
-{
-    let sweeps = number_width(figures.sweeps as i64);
-    let source = pair_width(figures.source);
-    let drawn = pair_width(figures.drawn);
-    let lost = pair_width(figures.lost);
-    sweeps + source + drawn + lost + 1
-}
-
-// The tables.
 pub fn nodes_width(nodes: &Names, rows: usize, v: &Threes) -> usize
     requires { ⌜ rows ≤ 200 ⌝ }
     ensures value { λ r. ⌜ r ≡ length (nodeTable (nodeLineAt (now (nodes .entry)) (threesOf (now (v .entry)))) rows) ⌝ }

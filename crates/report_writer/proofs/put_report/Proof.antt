@@ -7,9 +7,8 @@ use lib.ListN.{length}
 use borrow.Rule.Slice.PartMut.{putMid}
 use Rattle.arrays.specs.Arrays.{branchesOf, pairsOf, threesOf}
 use Rattle.report_writer.specs.Left.{rest-room, written-front}
-use Rattle.report_writer.specs.Lines.{branchTable, nodeTable, totalsTable}
+use Rattle.report_writer.specs.Tables.{branchLineAt, branchTable, nodeLineAt, nodeTable, totalsTable, wholeText}
 use Rattle.report_writer.specs.ReportIs.{report-is, whole-length}
-use Rattle.report_writer.specs.Tables.{branchLineAt, nodeLineAt, wholeText}
 use Rattle.text.specs.Stores.{written-behind, written-length, written-rest}
 use Rattle.text.specs.Promises.{Written}
 use Rattle.report_writer.proofs.put_report.Statement.{statement}

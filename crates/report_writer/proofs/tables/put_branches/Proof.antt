@@ -5,9 +5,8 @@ use Prim.Native.Nat.{_+_, _-_, _<_, _≤_}
 use native.Mathlib.Omega.{arith}
 use lib.ListN.{length, length-append}
 use Rattle.arrays.specs.Arrays.{branchesOf, pairsOf, threesOf}
-use Rattle.report_writer.specs.LineLaws.{branch-table-length}
-use Rattle.report_writer.specs.Lines.{branchTable, linesFrom}
-use Rattle.report_writer.specs.Tables.{branchLineAt}
+use Rattle.report_writer.specs.TableLaws.{branch-table-length}
+use Rattle.report_writer.specs.Tables.{branchLineAt, branchTable, linesFrom}
 use Rattle.report_writer.specs.Writing.{Writing, dueFrom, end-room, end-written, line-room, line-written, writing-all}
 use Rattle.text.specs.Stores.{written-behind}
 use Rattle.text.specs.Text.{bytes}

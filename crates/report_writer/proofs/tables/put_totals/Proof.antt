@@ -1,8 +1,8 @@
 -- `report_writer::tables::put_totals` meets its contract. Assumes nothing.
 use borrow.Author.Needs.{needs}
 use native.Mathlib.Omega.{arith}
-use Rattle.report_writer.specs.LineLaws.{totals-table-length}
-use Rattle.report_writer.specs.Lines.{totalsTable}
+use Rattle.report_writer.specs.TableLaws.{totals-table-length}
+use Rattle.report_writer.specs.Tables.{totalsTable}
 use Rattle.text.specs.Stores.{written-behind}
 use Rattle.text.specs.Text.{bytes}
 use Rattle.report_writer.proofs.tables.put_totals.Statement.{statement}

@@ -8,9 +8,9 @@ use lib.ListN.{getD, length}
 use Rattle.arrays.specs.Arrays.{branchesOf, pairsOf, threesOf}
 use Rattle.equations.specs.Equations.{zero3}
 use Rattle.integers.specs.Pairs.{0c}
-use Rattle.report_writer.specs.LineLaws.{branch-fits, branch-table-length, lines-longer, lines-over}
-use Rattle.report_writer.specs.Lines.{linesFrom}
-use Rattle.report_writer.specs.Tables.{branchLineAt, fromIn}
+use Rattle.report_lines.specs.LineLaws.{branch-fits}
+use Rattle.report_writer.specs.TableLaws.{branch-table-length, lines-longer, lines-over}
+use Rattle.report_writer.specs.Tables.{branchLineAt, fromIn, linesFrom}
 use Rattle.report_writer.proofs.widths.branches_width.Statement.{statement}
 use Rattle.report_writer.proofs.widths.branches_width.Tie as tie
 

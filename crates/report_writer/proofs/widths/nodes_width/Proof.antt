@@ -7,9 +7,9 @@ use native.Mathlib.Omega.{arith}
 use lib.ListN.{getD, length}
 use Rattle.arrays.specs.Arrays.{threesOf}
 use Rattle.equations.specs.Equations.{zero3}
-use Rattle.report_writer.specs.LineLaws.{lines-longer, lines-over, node-fits, node-table-length}
-use Rattle.report_writer.specs.Lines.{linesFrom}
-use Rattle.report_writer.specs.Tables.{nodeLineAt}
+use Rattle.report_lines.specs.LineLaws.{node-fits}
+use Rattle.report_writer.specs.TableLaws.{lines-longer, lines-over, node-table-length}
+use Rattle.report_writer.specs.Tables.{linesFrom, nodeLineAt}
 use Rattle.report_writer.proofs.widths.nodes_width.Statement.{statement}
 use Rattle.report_writer.proofs.widths.nodes_width.Tie as tie
 

@@ -1,7 +1,8 @@
 -- `report_writer::widths::totals_width` meets its contract. Assumes nothing.
 use borrow.Author.Needs.{needs}
 use native.Mathlib.Omega.{arith}
-use Rattle.report_writer.specs.LineLaws.{totals-fits, totals-table-length}
+use Rattle.report_lines.specs.LineLaws.{totals-fits}
+use Rattle.report_writer.specs.TableLaws.{totals-table-length}
 use Rattle.report_writer.proofs.widths.totals_width.Statement.{statement}
 use Rattle.report_writer.proofs.widths.totals_width.Tie as tie
 

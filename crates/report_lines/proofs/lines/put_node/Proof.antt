@@ -1,11 +1,11 @@
--- `report_writer::lines::put_node` meets its contract. Assumes nothing.
+-- `report_lines::lines::put_node` meets its contract. Assumes nothing.
 use borrow.Author.Needs.{needs}
 use native.Mathlib.Omega.{arith}
-use Rattle.report_writer.specs.LineLaws.{node-length}
-use Rattle.report_writer.specs.Lines.{nodeRow}
+use Rattle.report_lines.specs.LineLaws.{node-length}
+use Rattle.report_lines.specs.Lines.{nodeRow}
 use Rattle.text.specs.Stores.{written-behind}
-use Rattle.report_writer.proofs.lines.put_node.Statement.{statement}
-use Rattle.report_writer.proofs.lines.put_node.Tie as tie
+use Rattle.report_lines.proofs.lines.put_node.Statement.{statement}
+use Rattle.report_lines.proofs.lines.put_node.Tie as tie
 
 put-name-requires : tie.Need-put-name-requires
 put-name-requires c κs = let a = c .before .before .args in omega (arith, node-length (a .name) (a .v), c .before .before .pre)

@@ -1,12 +1,12 @@
--- `report_writer::lines::put_field` meets its contract. Assumes nothing.
+-- `report_lines::lines::put_field` meets its contract. Assumes nothing.
 use borrow.Author.Needs.{needs}
 use mathlib.Core.Path.{_≡_}
 use native.Mathlib.Omega.{arith}
 use mir.Facts.{toZ-ofZ}
 use Rattle.integers.specs.Machine.{read}
 use Rattle.text.specs.Stores.{written-behind}
-use Rattle.report_writer.proofs.lines.put_field.Statement.{statement}
-use Rattle.report_writer.proofs.lines.put_field.Tie as tie
+use Rattle.report_lines.proofs.lines.put_field.Statement.{statement}
+use Rattle.report_lines.proofs.lines.put_field.Tie as tie
 
 back : (c : tie.Start) → read (c .args .z) ≡ c .args .z
 back c = toZ-ofZ (c .fits .z)

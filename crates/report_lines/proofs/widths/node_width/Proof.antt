@@ -1,10 +1,10 @@
--- `report_writer::widths::node_width` meets its contract. Assumes nothing.
+-- `report_lines::widths::node_width` meets its contract. Assumes nothing.
 use borrow.Author.Needs.{needs}
 use native.Mathlib.Omega.{arith}
-use Rattle.report_writer.specs.LineLaws.{fits3, node-length, three-most}
+use Rattle.report_lines.specs.LineLaws.{fits3, node-length, three-most}
 use Rattle.text.specs.NameText.{letters-8}
-use Rattle.report_writer.proofs.widths.node_width.Statement.{statement}
-use Rattle.report_writer.proofs.widths.node_width.Tie as tie
+use Rattle.report_lines.proofs.widths.node_width.Statement.{statement}
+use Rattle.report_lines.proofs.widths.node_width.Tie as tie
 
 name-width-requires : tie.Need-name-width-requires
 name-width-requires c κs = search needs

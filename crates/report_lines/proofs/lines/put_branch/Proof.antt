@@ -1,11 +1,11 @@
--- `report_writer::lines::put_branch` meets its contract. Assumes nothing.
+-- `report_lines::lines::put_branch` meets its contract. Assumes nothing.
 use borrow.Author.Needs.{needs}
 use native.Mathlib.Omega.{arith}
-use Rattle.report_writer.specs.LineLaws.{branch-length}
-use Rattle.report_writer.specs.Lines.{branchRow}
+use Rattle.report_lines.specs.LineLaws.{branch-length}
+use Rattle.report_lines.specs.Lines.{branchRow}
 use Rattle.text.specs.Stores.{written-behind}
-use Rattle.report_writer.proofs.lines.put_branch.Statement.{statement}
-use Rattle.report_writer.proofs.lines.put_branch.Tie as tie
+use Rattle.report_lines.proofs.lines.put_branch.Statement.{statement}
+use Rattle.report_lines.proofs.lines.put_branch.Tie as tie
 
 put-name-requires : tie.Need-put-name-requires
 put-name-requires c κs = let a = c .before .before .args in omega (arith, branch-length (a .from) (a .to) (a .i) (a .loss), c .before .before .pre)

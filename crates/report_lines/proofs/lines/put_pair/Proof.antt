@@ -1,16 +1,16 @@
--- `report_writer::lines::put_pair` meets its contract. Assumes nothing.
+-- `report_lines::lines::put_pair` meets its contract. Assumes nothing.
 use borrow.Author.Needs.{needs}
 use mathlib.Core.Path.{_≡_}
 use Prim.Native.Nat.{_+_, _≤_}
 use native.Mathlib.Omega.{arith}
 use lib.ListN.{length}
 use Rattle.integers.specs.Machine.{read}
-use Rattle.report_writer.specs.LineLaws.{pair-length}
-use Rattle.report_writer.specs.Lines.{pairFields}
+use Rattle.report_lines.specs.LineLaws.{pair-length}
+use Rattle.report_lines.specs.Lines.{pairFields}
 use Rattle.text.specs.Stores.{written-behind}
 use Rattle.text.specs.Text.{decimal}
-use Rattle.report_writer.proofs.lines.put_pair.Statement.{statement}
-use Rattle.report_writer.proofs.lines.put_pair.Tie as tie
+use Rattle.report_lines.proofs.lines.put_pair.Statement.{statement}
+use Rattle.report_lines.proofs.lines.put_pair.Tie as tie
 
 back-re : (c : tie.Start) → read (c .args .x .re) ≡ c .args .x .re
 back-re c = search needs

@@ -1,13 +1,13 @@
--- `report_writer::widths::pair_width` meets its contract. Assumes nothing.
+-- `report_lines::widths::pair_width` meets its contract. Assumes nothing.
 use borrow.Author.Needs.{needs}
 use mathlib.Core.Path.{_≡_, ap}
 use native.Mathlib.Omega.{arith}
 use lib.ListN.{length}
 use Rattle.integers.specs.Machine.{read}
-use Rattle.report_writer.specs.LineLaws.{decimal-fits, pair-length}
+use Rattle.report_lines.specs.LineLaws.{decimal-fits, pair-length}
 use Rattle.text.specs.Text.{decimal}
-use Rattle.report_writer.proofs.widths.pair_width.Statement.{statement}
-use Rattle.report_writer.proofs.widths.pair_width.Tie as tie
+use Rattle.report_lines.proofs.widths.pair_width.Statement.{statement}
+use Rattle.report_lines.proofs.widths.pair_width.Tie as tie
 
 back-re : (c : tie.Start) → length (decimal (read (c .args .x .re))) ≡ length (decimal (c .args .x .re))
 back-re c = ap (λ z. length (decimal z)) (search needs)

@@ -1,10 +1,10 @@
--- `report_writer::widths::branch_width` meets its contract. Assumes nothing.
+-- `report_lines::widths::branch_width` meets its contract. Assumes nothing.
 use borrow.Author.Needs.{needs}
 use native.Mathlib.Omega.{arith}
-use Rattle.report_writer.specs.LineLaws.{branch-length, fits, fits3, pair-most, three-most}
+use Rattle.report_lines.specs.LineLaws.{branch-length, fits, fits3, pair-most, three-most}
 use Rattle.text.specs.NameText.{letters-8}
-use Rattle.report_writer.proofs.widths.branch_width.Statement.{statement}
-use Rattle.report_writer.proofs.widths.branch_width.Tie as tie
+use Rattle.report_lines.proofs.widths.branch_width.Statement.{statement}
+use Rattle.report_lines.proofs.widths.branch_width.Tie as tie
 
 name-width-requires : tie.Need-name-width-requires
 name-width-requires c κs = search needs

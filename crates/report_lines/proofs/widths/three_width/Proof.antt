@@ -1,9 +1,9 @@
--- `report_writer::widths::three_width` meets its contract. Assumes nothing.
+-- `report_lines::widths::three_width` meets its contract. Assumes nothing.
 use borrow.Author.Needs.{needs}
 use native.Mathlib.Omega.{arith}
-use Rattle.report_writer.specs.LineLaws.{fits, pair-most, three-length}
-use Rattle.report_writer.proofs.widths.three_width.Statement.{statement}
-use Rattle.report_writer.proofs.widths.three_width.Tie as tie
+use Rattle.report_lines.specs.LineLaws.{fits, pair-most, three-length}
+use Rattle.report_lines.proofs.widths.three_width.Statement.{statement}
+use Rattle.report_lines.proofs.widths.three_width.Tie as tie
 
 pair-width-requires : tie.Need-pair-width-requires
 pair-width-requires c κs = search needs

@@ -1,4 +1,4 @@
--- `report_writer::lines::put_totals_line` meets its contract. Assumes nothing.
+-- `report_lines::lines::put_totals_line` meets its contract. Assumes nothing.
 use borrow.Author.Needs.{needs}
 use mathlib.Core.Path.{_≡_, ap}
 use native.Mathlib.Omega.{arith}
@@ -7,12 +7,12 @@ use lib.IntN.{pos}
 use mir.Syntax.{w64}
 use mir.Val.{toZ}
 use mir.ValLaws.{toZ-pos}
-use Rattle.report_writer.specs.LineLaws.{totals-length}
-use Rattle.report_writer.specs.Lines.{totalsRow}
+use Rattle.report_lines.specs.LineLaws.{totals-length}
+use Rattle.report_lines.specs.Lines.{totalsRow}
 use Rattle.text.specs.Stores.{written-behind}
 use Rattle.text.specs.Text.{decimal}
-use Rattle.report_writer.proofs.lines.put_totals_line.Statement.{statement}
-use Rattle.report_writer.proofs.lines.put_totals_line.Tie as tie
+use Rattle.report_lines.proofs.lines.put_totals_line.Statement.{statement}
+use Rattle.report_lines.proofs.lines.put_totals_line.Tie as tie
 
 -- the sweeps as a signed number
 swept : (c : tie.Start) → toZ w64 (c .args .figures .sweeps) ≡ pos (c .args .figures .sweeps)

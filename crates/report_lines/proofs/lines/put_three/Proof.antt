@@ -1,11 +1,11 @@
--- `report_writer::lines::put_three` meets its contract. Assumes nothing.
+-- `report_lines::lines::put_three` meets its contract. Assumes nothing.
 use borrow.Author.Needs.{needs}
 use native.Mathlib.Omega.{arith}
-use Rattle.report_writer.specs.LineLaws.{three-length}
-use Rattle.report_writer.specs.Lines.{threeFields}
+use Rattle.report_lines.specs.LineLaws.{three-length}
+use Rattle.report_lines.specs.Lines.{threeFields}
 use Rattle.text.specs.Stores.{written-behind}
-use Rattle.report_writer.proofs.lines.put_three.Statement.{statement}
-use Rattle.report_writer.proofs.lines.put_three.Tie as tie
+use Rattle.report_lines.proofs.lines.put_three.Statement.{statement}
+use Rattle.report_lines.proofs.lines.put_three.Tie as tie
 
 put-pair-requires : tie.Need-put-pair-requires
 put-pair-requires c κs = omega (arith, three-length (c .before .before .args .x), c .before .before .pre)

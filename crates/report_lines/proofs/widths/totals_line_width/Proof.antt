@@ -1,4 +1,4 @@
--- `report_writer::widths::totals_line_width` meets its contract. Assumes nothing.
+-- `report_lines::widths::totals_line_width` meets its contract. Assumes nothing.
 use borrow.Author.Needs.{needs}
 use mathlib.Core.Path.{_≡_, ap}
 use native.Mathlib.Omega.{arith}
@@ -7,10 +7,10 @@ use lib.IntN.{pos}
 use mir.Syntax.{w64}
 use mir.Val.{toZ}
 use mir.ValLaws.{toZ-pos}
-use Rattle.report_writer.specs.LineLaws.{decimal-fits, fits, pair-most, totals-length}
+use Rattle.report_lines.specs.LineLaws.{decimal-fits, fits, pair-most, totals-length}
 use Rattle.text.specs.Text.{decimal}
-use Rattle.report_writer.proofs.widths.totals_line_width.Statement.{statement}
-use Rattle.report_writer.proofs.widths.totals_line_width.Tie as tie
+use Rattle.report_lines.proofs.widths.totals_line_width.Statement.{statement}
+use Rattle.report_lines.proofs.widths.totals_line_width.Tie as tie
 
 -- the sweeps as a signed number
 swept : (c : tie.Start) → toZ w64 (c .args .figures .sweeps) ≡ pos (c .args .figures .sweeps)

@@ -2,7 +2,7 @@
 ghost use Prim.Native.Nat.{_+_, _<_, _≤_};
 ghost use mathlib.Core.List.{_∷_};
 ghost use lib.ListN.{length};
-ghost use Rattle.report_writer.specs.Lines.{branchRow, nodeRow, pairFields, threeFields, totalsRow};
+ghost use Rattle.report_lines.specs.Lines.{branchRow, nodeRow, pairFields, threeFields, totalsRow};
 ghost use Rattle.text.specs.Promises.{Written};
 ghost use Rattle.text.specs.Text.{decimal};
 use crate::Figures;
