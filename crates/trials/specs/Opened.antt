@@ -21,7 +21,7 @@ use Rattle.account.specs.Account.{ratingOf, rating, exactLoss, accounted, loadA
 
 -- says nothing by itself
 unfoldable pub opened : Unit {0}
-unfolding near rnd rootBy root _+c_ _-c_ _·c_ _·*_ scaled rndPair abs square inside within close same csum nsum all any tab count bytes more natural number name pack word begins digits decimal letters line names numbers row text listed branchRow loadRow rows sourceTable branchTable loadTable layout firstRow orElse columnOf sourceIn branchIn loadIn outOfLimit placeOf nodesOf unknownFrom secondTo deviceOf feederOf branchAt phasesOf above notReached phaseAbsent zeros notZero reading each plus3 minus3 sum3 masked mix voltageOn rated weight currentAt loadCurrent zOf dropOf throughOf takenOf farVoltage nearCurrent downward voltages loadsAt upward currents power lossOf sourcePower drawnPower lostPower beyond beyond3 zeroVoltage loadBeyond currentBeyond voltageBeyond nameText joined nodeLine branchLine totalsLine nodesText branchesText totalsText reportText rowsJust tableOf lastRow reportOf reportedVoltages reportedCurrents reportedLosses settled sweep solution report fitted studyOf bufferOf nameDiffers sourceDiffers currentDiffers off belowOff voltageOff totalDiffers compared checked checkOf ratingOf rating exactLoss accounted loadAllowance over branchAllowance allowance difference
+unfolding near rnd rootBy root _+c_ _-c_ _·c_ _·*_ scaled rndPair abs square inside within close same csum nsum all any tab count bytes more natural number name pack word begins digits decimal letters line names numbers row text listed branchRow loadRow rows sourceTable branchTable loadTable layout firstRow orElse columnOf sourceIn branchIn loadIn outOfLimit placeOf nodesOf unknownFrom secondTo deviceOf feederOf branchAt phasesOf above notReached phaseAbsent zeros notZero reading each plus3 minus3 sum3 masked mix voltageOn rated weight currentAt loadCurrent zOf dropOf throughOf takenOf farVoltage nearCurrent downward voltages loadsAt upward currents power lossOf sourcePower drawnPower lostPower beyond beyond3 zeroVoltage loadBeyond currentBeyond voltageBeyond nameText joined nodeLine branchLine totalsLine nodesText branchesText totalsText reportText rowsJust tableOf lastRow reportOf reportedVoltages reportedCurrents reportedLosses settled sweep solution report fitted studyOf bufferOf nameDiffers sourceDiffers currentDiffers totalDiffers off belowOff voltageOff compared checked checkOf ratingOf rating exactLoss accounted loadAllowance over branchAllowance allowance difference
 opened = tt
 
 -- the power account's numbers for a feeder's and a report's text
