@@ -7,12 +7,11 @@ use native.Mathlib.Omega.{arith}
 use lib.ListN.{getD, length}
 use Rattle.answers.specs.declared.Found.the-variants.{At}
 use Rattle.feeder.specs.Feeder.{firstRow}
-use Rattle.integers.specs.Bools.{both, joined}
+use Rattle.integers.specs.Bools.{both, joined, same?}
 use Rattle.integers.specs.Lists.{all, count, tab}
 use Rattle.integers.specs.PairLaws.{pair-eq, same-true, true-same}
 use Rattle.integers.specs.Pairs.{same}
 use Rattle.integers.specs.declared.Pair.{Pair}
-use Rattle.passes.specs.Arrays.{same?}
 
 -- the line of the first row of which a test fails
 pub first-row : (bad : ℕ → Bool) (before n k : ℕ) → 0 < k → k < suc n → ((j : ℕ) → 0 < j → j < k → bad j ≡ false) → bad k ≡ true →

@@ -8,18 +8,17 @@ use lib.ListN.{getD, length, length-set, replicate, set}
 use lib.Seq.{getD-set-other, getD-set-same}
 use Rattle.equations.specs.Downward.{downward-node, downward-source}
 use Rattle.equations.specs.Equations.{at, downward, voltages, zero3}
-use Rattle.equations.specs.Sizes.{Within3, close3-within, true-close3, within3-more, within3-zero}
+use Rattle.equations.specs.Sizes.{Within3, close3-within, true-close3, within3-le, within3-more, within3-zero}
 use Rattle.feeder.specs.Feeder.{Feeder, above}
 use Rattle.feeder.specs.declared.Branch.{Branch}
 use Rattle.feeder.specs.declared.Three.{Three}
-use Rattle.integers.specs.Bools.{clash}
+use Rattle.integers.specs.Bools.{clash, same?}
 use Rattle.integers.specs.PairLaws.{Close, close-true, true-same}
 use Rattle.integers.specs.Pairs.{same}
-use Rattle.passes.specs.Arrays.{branch-in, rank-most, same?, to-source, voltage-in, voltage-next}
+use Rattle.passes.specs.Arrays.{branch-in, rank-most, to-source, voltage-in, voltage-next}
 use Rattle.deviations.specs.Deviations.{Comparable, MarksAre, belowOffAt, differ, offAt}
 use Rattle.passes.specs.Passes.{InArrays, Ready}
 use Rattle.passes.specs.Along.{Done, Turn, done-at, done-next, turn}
-use Rattle.passes.specs.Arrays.{more3}
 use Rattle.passes.specs.Lower.{below, sized-next}
 use Rattle.radial.specs.Radial.{parentIn}
 
@@ -61,7 +60,7 @@ differ-none tol x = ap not (true-close3 tol x x (λ p. let h : Close 0 (at x p) 
 
 -- what is not marked is near what is reported
 pub near-within : (tol : ℕ) (x y : Three) → tol ≤ 1000 → Within3 2000000 y → differ tol x y ≡ false → Within3 2100000 x
-near-within tol x y l h e = more3 (omega arith) (close3-within tol x y (yes _ e) h)
+near-within tol x y l h e = within3-le (omega arith) (close3-within tol x y (yes _ e) h)
   where
     yes : (b : Bool) → not b ≡ false → b ≡ true
     yes true e = refl

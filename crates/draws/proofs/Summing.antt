@@ -7,7 +7,7 @@ use native.Mathlib.Omega.{arith}
 use lib.Dec.{eqb}
 use lib.ListN.{getD, length, length-replicate, length-set, replicate, set}
 use Rattle.draws.specs.Draws.{DrawsOf, SmallDraws, rowOf, stateOf, worseOf}
-use Rattle.draws.specs.SumLaws.{any-next, atPlace, csum-next, csum-same, places-next, sum3-same, tab-is, tab-next}
+use Rattle.draws.specs.SumLaws.{any-next, atPlace, csum-next, csum-same, places-next, sum3-same, tab-next}
 use Rattle.draws.specs.declared.Draws.{Draws}
 use Rattle.draws.specs.declared.Row.{Row}
 use Rattle.draws.specs.declared.State.the-variants.{Fine}
@@ -21,7 +21,7 @@ use Rattle.feeder.specs.NetworkLaws.{getD-kept}
 use Rattle.feeder.specs.declared.Load.{Load}
 use Rattle.feeder.specs.declared.Three.{Three}
 use Rattle.integers.specs.Bools.{cond-ind}
-use Rattle.integers.specs.ListLaws.{All, all-map, all-map2, any-false, at-all}
+use Rattle.integers.specs.ListLaws.{All, all-map, all-map2, any-false, at-all, tab-is}
 use Rattle.integers.specs.Lists.{any, csum, tab}
 use Rattle.integers.specs.PairLaws.{Within}
 use Rattle.integers.specs.Pairs.{0c, _+c_, _·*_, scaled}

@@ -7,12 +7,12 @@ use native.Mathlib.Decide.{ℕ-discrete}
 use native.Mathlib.Omega.{arith}
 use lib.Dec.{eqb}
 use lib.ListN.{getD, length, set}
-use lib.Seq.{ext-getD, getD-set-other, getD-set-same}
+use lib.Seq.{getD-set-other, getD-set-same}
 use borrow.Author.Tests.{eq-eqb, ne-eqb}
 use Rattle.equations.specs.Equations.{plus3, sum3, zero3}
 use Rattle.equations.specs.ThreeLaws.{plus3-assoc, plus3-comm, plus3-idr}
 use Rattle.feeder.specs.declared.Three.{Three}
-use Rattle.integers.specs.ListLaws.{All, getD-tab, length-tab}
+use Rattle.integers.specs.ListLaws.{All}
 use Rattle.integers.specs.Lists.{any, csum, tab}
 use Rattle.integers.specs.PairLaws.{+c-assoc, +c-comm}
 use Rattle.integers.specs.Pairs.{0c, _+c_}
@@ -84,11 +84,3 @@ pub sum3-same : {X : Type 0} (f g : X → Three) (l : List X) → All (λ x. f x
 unfolding sum3
 sum3-same f g [] h = refl
 sum3-same f g (x ∷ l) h = λ i. plus3 (h .0 i) (sum3-same f g l (h .1) i)
-
--- ---- tables
-pub tab-is : {X : Type 0} (f : ℕ → X) (n : ℕ) (l : List X) (d : X) → length l ≡ n → ((k : ℕ) → k < n → getD l k d ≡ f k) → l ≡ tab f 0 n
-tab-is f n l d e h =
-    ext-getD d l (tab f 0 n) (e ∙ sym (length-tab f 0 n)) (λ k q.
-    let i : k < n = omega arith in
-    let z : k ≡ 0 + k = omega arith in
-    h k i ∙ ap f z ∙ sym (getD-tab f 0 n k d i))

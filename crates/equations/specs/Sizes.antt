@@ -20,7 +20,7 @@ use Rattle.feeder.specs.declared.Three.{Three}
 use Rattle.integers.specs.Bools.{clash, cond-ind}
 use Rattle.integers.specs.ListLaws.{All, all-true, true-all}
 use Rattle.integers.specs.Lists.{all, any, csum}
-use Rattle.integers.specs.PairLaws.{+c-idl, +c-idr, Close, Within, close-true, pair-eq, true-close, true-within, within-add, within-more, within-mul-conj, within-scaled, within-sub, within-true}
+use Rattle.integers.specs.PairLaws.{+c-idl, +c-idr, Close, Within, close-true, pair-eq, true-close, true-within, within-add, within-le, within-more, within-mul-conj, within-scaled, within-sub, within-true}
 use Rattle.integers.specs.Pairs.{0c, _+c_, _·*_, _·c_, close, rndPair, scaled, within}
 use Rattle.integers.specs.Whole.{abs-parts, add-parts, neg-neg, one-part, pos-neg}
 use Rattle.integers.specs.declared.Pair.{Pair}
@@ -44,6 +44,9 @@ within3-each h = record { a = h A; b = h B; c = h C }
 -- of three values, each of which is known
 pub within3-of : {m : ℕ} {x : Three} (f : Phase → Pair) → x .a ≡ f A → x .b ≡ f B → x .c ≡ f C → ((p : Phase) → Within m (f p)) → Within3 m x
 within3-of f p q r h = record { a = rw p (h A); b = rw q (h B); c = rw r (h C) }
+
+pub within3-le : {m n : ℕ} {x : Three} → m ≤ n → Within3 m x → Within3 n x
+within3-le l h = record { a = within-le l (h .a); b = within-le l (h .b); c = within-le l (h .c) }
 
 pub within3-more : {m n : ℕ} {x : Three} → Within3 m x → T (leb m n) → Within3 n x
 within3-more h t = record { a = within-more (h .a) t; b = within-more (h .b) t; c = within-more (h .c) t }

@@ -1,6 +1,8 @@
--- Truth values that are chosen by or joined: what follows from the whole of its parts, and back. Assumes nothing.
+-- Truth values that are chosen by or joined: what follows from the whole of its parts, and back; and the two cases of an equation of numbers. Assumes nothing.
 use mathlib.Core.Path.{_≡_, sym, ap, subst, _∙_}
 use mathlib.Core.Bool.{Bool, true, false, not, cond, _&&_}
+use Prim.Native.Nat.{ℕ}
+use native.Mathlib.Decide.{ℕ-discrete}
 use lib.Dec.{T}
 
 -- what holds of both choices, each where it is taken, holds of the chosen one
@@ -31,3 +33,7 @@ and-yes {q′ = q′} h e f = f ∙ sym (ap (λ (b : Bool). b && q′) (sym e �
 
 pub and-no : {p p′ : Bool} (q′ : Bool) → p ≡ false → p ≡ p′ → p ≡ (p′ && q′)
 and-no q′ h e = h ∙ sym (ap (λ (b : Bool). b && q′) (sym e ∙ h))
+
+-- two numbers are equal or not
+pub same? : {X : Type 0} (a b : ℕ) → (a ≡ b → X) → ((a ≡ b → ⊥) → X) → X
+same? a b f g = elim (ℕ-discrete a b) [ yes e ↦ f e | no n ↦ g n ]

@@ -1,10 +1,11 @@
 -- Lists: a fact of every row, tables read at an index, and what the tests over a list say of each row. Assumes nothing.
-use mathlib.Core.Path.{_≡_, refl, ap}
+use mathlib.Core.Path.{_∙_, _≡_, ap, refl, sym}
 use mathlib.Core.Bool.{Bool, true, false, cond}
 use mathlib.Core.List.{List, [], _∷_, map}
 use Prim.Native.Nat.{ℕ, zero, suc, _+_, _<_}
 use native.Mathlib.Omega.{arith}
 use lib.ListN.{length, getD}
+use lib.Seq.{ext-getD}
 use Rattle.integers.specs.Lists.{all, any, tab, count}
 use Rattle.integers.specs.Bools.{both, joined, clash}
 
@@ -47,6 +48,14 @@ pub length-tab : {X : Type 0} (f : ℕ → X) (k n : ℕ) → length (tab f k n)
 unfolding tab
 length-tab f k zero = refl
 length-tab f k (suc n) = ap suc (length-tab f (k + 1) n)
+
+-- a list is the table of what stands at its places
+pub tab-is : {X : Type 0} (f : ℕ → X) (n : ℕ) (l : List X) (d : X) → length l ≡ n → ((k : ℕ) → k < n → getD l k d ≡ f k) → l ≡ tab f 0 n
+tab-is f n l d e h =
+    ext-getD d l (tab f 0 n) (e ∙ sym (length-tab f 0 n)) (λ k q.
+    let i : k < n = omega arith in
+    let z : k ≡ 0 + k = omega arith in
+    h k i ∙ ap f z ∙ sym (getD-tab f 0 n k d i))
 
 pub getD-map : {X Y : Type 0} (g : X → Y) (l : List X) (i : ℕ) (d : X) (e : Y) → i < length l → getD (map g l) i e ≡ g (getD l i d)
 getD-map g [] i d e h = absurd (omega arith)

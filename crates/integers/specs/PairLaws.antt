@@ -46,8 +46,12 @@ room {m} {n} h k t =
     }
 
 -- ---- sizes
+-- within a bound, and so within a greater one: by a fact of the two bounds, or where they are numerals by their test
+pub within-le : {m n : ℕ} {x : Pair} → m ≤ n → Within m x → Within n x
+within-le l h = record { re = omega (arith, h .re); im = omega (arith, h .im) }
+
 pub within-more : {m n : ℕ} {x : Pair} → Within m x → T (leb m n) → Within n x
-within-more {m} {n} h t = let l = leb→le m n t in record { re = omega arith; im = omega arith }
+within-more {m} {n} h t = within-le (leb→le m n t) h
 
 pub within-add : {m n : ℕ} {x y : Pair} → Within m x → Within n y → Within (m + n) (x +c y)
 unfolding _+c_

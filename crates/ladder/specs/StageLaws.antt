@@ -10,7 +10,6 @@ use Rattle.answers.specs.Answers.{Outcome, _>>=_, good, refused}
 use Rattle.answers.specs.declared.Refusal.{Refusal}
 use Rattle.answers.specs.declared.Refusal.the-variants.{BufferShort}
 use Rattle.equations.specs.Equations.{lossOf, power, sourcePower, zero3}
-use Rattle.equations.specs.Fit.{fit}
 use Rattle.feeder.specs.Feeder.{Feeder, branchAt, noBranch, parent, reading, rowCount, rowsOf}
 use Rattle.feeder.specs.Network.{Held}
 use Rattle.feeder.specs.NetworkLaws.{getD-kept}
@@ -32,10 +31,6 @@ use Rattle.ladder.specs.declared.Study.{Study}
 use Rattle.ladder.specs.declared.Study.the-variants.{NoReport, Written}
 use Rattle.passes.specs.Passes.{LossesAre}
 use Rattle.passes.specs.Same.{Same, loss-same, lost-same, source-same}
-use Rattle.reading.specs.Reading.{ReadInto}
-use Rattle.reading.specs.declared.ReadAnswer.{ReadAnswer}
-use Rattle.reading.specs.declared.ReadAnswer.the-variants.{Good, Refused}
-use Rattle.reading.specs.declared.Read.{Read}
 use Rattle.report_writer.specs.ReportIs.{Shown}
 use Rattle.report_writer.specs.Tables.{Given}
 use Rattle.report_lines.specs.declared.Figures.{Figures}
@@ -51,29 +46,6 @@ whole-refused s out x r last e q b = study-same {p = refused x} (rw e) (record {
 
 pub whole-read : (s : List ℕ) (out : List ℕ) (f : Feeder) (r : Study) (last : List ℕ) → reading s ≡ good f → StudyAs (fittedFrom f (length out)) out r last → StudyAs (reading s >>= λ f. fittedFrom f (length out)) out r last
 whole-read s out f r last e h = study-same {p = fittedFrom f (length out)} (rw e) h
-
--- ---- what was read
-pub read-refused : (o : Outcome Feeder) (r : Read) (g : Network) (x : Refusal) → ReadInto o r g → r .answer ≡ Refused x → o ≡ refused x
-read-refused (good f) r g x h e = let b : _≡_ {A = ReadAnswer} Good (Refused x) = sym (h .answered .0) ∙ e in let z : _≡_ {A = ℕ} 0 1 = cc in absurd (omega arith)
-read-refused (refused y) r g x h e = let b : _≡_ {A = ReadAnswer} (Refused y) (Refused x) = sym (h .answered) ∙ e in let z : y ≡ x = cc in ap refused z
-
-pub record ReadKnown (s : List ℕ) (g : Network) : Type 0 where
-  pub feeder : Feeder
-  pub whole : reading s ≡ good feeder
-  pub held : Held feeder g
-  pub known : Known g
-
-pub read-good : (s : List ℕ) (r : Read) (g : Network) → ReadInto (reading s) r g → r .answer ≡ Good → ReadKnown s g
-read-good s r g h e = go (reading s) refl h
-  where
-    go : (o : Outcome Feeder) → reading s ≡ o → ReadInto o r g → ReadKnown s g
-    go (good f) q h = record {
-      feeder = f;
-      whole = q;
-      held = h .answered .1;
-      known = record { feeder = f; held = h .answered .1; fit = fit s f q; arranged = h .answered .2 };
-    }
-    go (refused y) q h = let b : _≡_ {A = ReadAnswer} (Refused y) Good = sym (h .answered) ∙ e in let z : _≡_ {A = ℕ} 0 1 = cc in absurd (omega arith)
 
 -- ---- the iteration's end
 pub record RunGood (f : Feeder) (k : ℕ) (r : Run) (v i : List Three) : Type 0 where

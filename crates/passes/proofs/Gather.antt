@@ -18,10 +18,11 @@ use Rattle.feeder.specs.declared.Branch.{Branch}
 use Rattle.feeder.specs.declared.Three.{Three}
 use Rattle.integers.specs.ListLaws.{all-count}
 use Rattle.integers.specs.Lists.{count, tab}
-use Rattle.passes.specs.Arrays.{branch-in, rank-most, reached-in, same?}
+use Rattle.passes.specs.Arrays.{branch-in, rank-most, reached-in}
 use Rattle.passes.specs.Passes.{InArrays, Ready}
 use Rattle.passes.specs.Along.{Turn, turn}
 use Rattle.radial.specs.Radial.{parentIn}
+use Rattle.integers.specs.Bools.{same?}
 
 -- ---- a sum over rows, with one row more
 sum-same : (l : List ℕ) {f g : ℕ → Three} → ((c : ℕ) → f c ≡ g c) → sum3 f l ≡ sum3 g l

@@ -7,13 +7,13 @@ use native.Mathlib.Omega.{arith}
 use lib.ListN.{getD, length, length-set, set}
 use lib.Seq.{getD-set-other, getD-set-same}
 use Rattle.equations.specs.Equations.{beyond3, currentBeyond, nearCurrent, plus3, upward, zero3}
-use Rattle.equations.specs.Sizes.{Within3, beyond3-false, within3-plus}
+use Rattle.equations.specs.Sizes.{Within3, beyond3-false, within3-le, within3-plus}
 use Rattle.feeder.specs.Feeder.{Feeder, branchAt, noBranch, rowCount}
 use Rattle.feeder.specs.declared.Branch.{Branch}
 use Rattle.feeder.specs.declared.Three.{Three}
-use Rattle.integers.specs.Bools.{clash}
+use Rattle.integers.specs.Bools.{clash, same?}
 use Rattle.integers.specs.ListLaws.{getD-tab, length-tab}
-use Rattle.passes.specs.Arrays.{more3, branch-in, keeps, no-row, rank-most, same?, some-row}
+use Rattle.passes.specs.Arrays.{branch-in, keeps, no-row, rank-most, some-row}
 use Rattle.passes.specs.Passes.{InArrays, Ready, UpwardIs, upwards}
 use Rattle.passes.specs.Along.{done-at, turn}
 use Rattle.passes.proofs.Gather.{Holds, holds-is, holds-next, holds-own, taken}
@@ -38,7 +38,7 @@ gathered-first branches rows order own l b e =
     record {
       long = l;
       behind = b;
-      each = λ j. more3 (omega arith) (e j);
+      each = λ j. within3-le (omega arith) (e j);
       fine = λ q p h. absurd (omega arith);
       holds = λ rank w. (let z : suc rows ≡ rows + 1 = omega arith in rw z (holds-own w own));
     }
@@ -62,8 +62,8 @@ module _ {branches : List Branch} {rows : ℕ} {order rank : List ℕ} (w : Read
             same? j p
             (λ z.
             rw (z, getD-set-same x p y zero3 (omega (arith, g .long, n .parent-room)), e)
-            (more3 (omega arith) (within3-plus (g .each p) (beyond3-false (here .taken-there)))))
-            (λ ne. rw (other j ne) (more3 (omega arith) (g .each j)));
+            (within3-le (omega arith) (within3-plus (g .each p) (beyond3-false (here .taken-there)))))
+            (λ ne. rw (other j ne) (within3-le (omega arith) (g .each j)));
         fine = λ q a b.
             let t = w .ordered .top q (omega arith) in
             kept (getD order q 0) (λ z. let r : getD rank (getD order q 0) 0 ≡ getD rank p 0 = ap (λ (j : ℕ). getD rank j 0) z in omega (arith, t .1, n .parent-before))

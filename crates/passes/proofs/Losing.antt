@@ -12,12 +12,12 @@ use Rattle.feeder.specs.declared.Branch.{Branch}
 use Rattle.feeder.specs.declared.Three.{Three}
 use Rattle.integers.specs.ListLaws.{getD-map, getD-tab, length-tab}
 use Rattle.integers.specs.Lists.{count, csum, tab}
-use Rattle.integers.specs.PairLaws.{Within, within-add}
+use Rattle.integers.specs.PairLaws.{Within, within-add, within-le}
 use Rattle.integers.specs.Pairs.{_+c_, 0c}
 use Rattle.integers.specs.declared.Pair.{Pair}
-use Rattle.passes.specs.Arrays.{branch-in, keeps, same?}
+use Rattle.passes.specs.Arrays.{branch-in, keeps}
 use Rattle.passes.specs.Passes.{InArrays, LossesAre, SmallLosses}
-use Rattle.passes.specs.Arrays.{more}
+use Rattle.integers.specs.Bools.{same?}
 
 -- the loss of row k
 abbrev pub lossIn : List Branch → List Three → ℕ → Pair
@@ -98,4 +98,4 @@ module _ (branches : List Branch) (rows : ℕ) (i : List Three) (each : List Pai
         }
 
   pub lost-small : SmallLosses each sum
-  lost-small = record { long = l .long; each-small = l .small; sum-small = more (omega arith) (l .sum-small) }
+  lost-small = record { long = l .long; each-small = l .small; sum-small = within-le (omega arith) (l .sum-small) }

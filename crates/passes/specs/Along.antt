@@ -7,9 +7,9 @@ use lib.ListN.{getD}
 use Rattle.equations.specs.Equations.{downward}
 use Rattle.feeder.specs.Feeder.{above}
 use Rattle.feeder.specs.declared.Branch.{Branch}
-use Rattle.passes.specs.Arrays.{same?}
 use Rattle.passes.specs.Passes.{Ready}
 use Rattle.radial.specs.Radial.{parentIn}
+use Rattle.integers.specs.Bools.{same?}
 
 -- P of the nodes at places 1 to k - 1 of the order; the source is at 0
 abbrev pub Done : List ℕ → (ℕ → Type 0) → ℕ → Type 0

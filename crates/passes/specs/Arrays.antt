@@ -3,7 +3,7 @@ use mathlib.Core.Bool.{Bool, cond, false, true}
 use mathlib.Core.List.{_∷_, List, []}
 use mathlib.Core.Path.{_∙_, _≡_, ap, refl, sym}
 use Prim.Native.Nat.{_+_, _<_, _≤_, suc, zero, ℕ}
-use native.Mathlib.Decide.{decLt, ℕ-discrete}
+use native.Mathlib.Decide.{decLt}
 use native.Mathlib.Omega.{arith}
 use lib.ListN.{getD, length}
 use lib.Seq.{ext-getD}
@@ -16,18 +16,12 @@ use Rattle.feeder.specs.NetworkLaws.{getD-kept, length-kept}
 use Rattle.feeder.specs.declared.Branch.{Branch}
 use Rattle.feeder.specs.declared.Network.{Network}
 use Rattle.feeder.specs.declared.Three.{Three}
-use Rattle.equations.specs.Sizes.{Within3}
-use Rattle.integers.specs.PairLaws.{Within}
-use Rattle.integers.specs.declared.Pair.{Pair}
 use Rattle.integers.specs.ListLaws.{All, all-count, getD-tab, length-tab}
 use Rattle.integers.specs.Lists.{any, count, tab}
 use Rattle.passes.specs.Passes.{InArrays, Ready}
 use Rattle.radial.specs.Radial.{parentIn}
 use Rattle.radial.specs.Reach.{rank-short, reached}
-
--- two numbers are equal or not
-pub same? : {X : Type 0} (a b : ℕ) → (a ≡ b → X) → ((a ≡ b → ⊥) → X) → X
-same? a b f g = elim (ℕ-discrete a b) [ yes e ↦ f e | no n ↦ g n ]
+use Rattle.integers.specs.Bools.{same?}
 
 -- behind a list stands the default
 pub getD-behind : {X : Type 0} (l : List X) (k : ℕ) (d : X) → length l ≤ k → getD l k d ≡ d
@@ -118,10 +112,3 @@ module _ (f : Feeder) (branches : List Branch) (rows : ℕ) (few : rows ≤ 200)
             sym (λ t. above (λ m. branch-in m t .from) (w .rows-are t) (1 + i)) ∙
             to-source r (1 + i) (omega (arith, w .rows-are));
       })
-
--- a pair, or three, within a bound are within a greater one
-pub more : {m n : ℕ} {x : Pair} → m ≤ n → Within m x → Within n x
-more l h = record { re = omega (arith, h .re); im = omega (arith, h .im) }
-
-pub more3 : {m n : ℕ} {x : Three} → m ≤ n → Within3 m x → Within3 n x
-more3 l h = record { a = more l (h .a); b = more l (h .b); c = more l (h .c) }

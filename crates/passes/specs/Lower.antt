@@ -12,8 +12,8 @@ use Rattle.equations.specs.Sizes.{Within3, false-beyond3}
 use Rattle.feeder.specs.Feeder.{Feeder, noBranch, rowCount}
 use Rattle.feeder.specs.declared.Branch.{Branch}
 use Rattle.feeder.specs.declared.Three.{Three}
-use Rattle.integers.specs.Bools.{clash}
-use Rattle.passes.specs.Arrays.{keeps, no-row, rank-most, same?, some-row, to-source, voltage-in, voltages-length}
+use Rattle.integers.specs.Bools.{clash, same?}
+use Rattle.passes.specs.Arrays.{keeps, no-row, rank-most, some-row, to-source, voltage-in, voltages-length}
 use Rattle.passes.specs.Passes.{DownwardIs, InArrays, Ready}
 use Rattle.passes.specs.Along.{Done, done-next, turn, worked}
 use Rattle.radial.specs.Radial.{parentIn}

@@ -7,7 +7,7 @@ use native.Mathlib.Omega.{arith}
 use Rattle.answers.specs.declared.Found.the-variants.{At}
 use Rattle.feeder.specs.Feeder.{firstRow}
 use Rattle.integers.specs.Lists.{count, tab}
-use Rattle.passes.specs.Arrays.{same?}
+use Rattle.integers.specs.Bools.{same?}
 
 -- the line of the first node of which a test fails
 pub first-node : (bad : ℕ → Bool) (n k : ℕ) → k < suc n → ((j : ℕ) → j < k → bad j ≡ false) → bad k ≡ true → firstRow (λ (j m : ℕ). bad m) 1 1 (0 ∷ count 1 n) ≡ At (k + 2)

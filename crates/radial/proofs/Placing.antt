@@ -1,7 +1,6 @@
 -- The order that lists the source alone, an order that grows by one node, a pass over the rows, and the end. Assumes nothing.
 use mathlib.Core.List.{List, _∷_}
 use mathlib.Core.Path.{_≡_, refl, sym, ap, _∙_}
-use native.Mathlib.Decide.{ℕ-discrete}
 use native.Mathlib.Numerals.{add-one}
 use native.Mathlib.Omega.{arith}
 use Prim.Native.Nat.{_+_, _<_, _≤_, suc, zero, ℕ}
@@ -12,6 +11,7 @@ use Rattle.feeder.specs.declared.Branch.{Branch}
 use Rattle.radial.specs.Counting.{all-but-source, one-fewer}
 use Rattle.radial.specs.Radial.{Closed, InOrder, Linked, Order, Ordered, Placed, Stepped, made, parentIn, unplaced}
 use Rattle.radial.specs.Reach.{rank-short}
+use Rattle.integers.specs.Bools.{same?}
 
 zero-at : (n i : ℕ) → _≡_ {A = ℕ} (getD (replicate n 0) i 0) 0
 zero-at zero i = refl
@@ -52,10 +52,6 @@ start {bs} {rows} l =
       order-size = refl;
       rank-size = refl;
     }
-
--- two numbers are equal or not
-same? : {X : Type 0} (a b : ℕ) → (a ≡ b → X) → ((a ≡ b → ⊥) → X) → X
-same? a b f g = elim (ℕ-discrete a b) [ yes e ↦ f e | no n ↦ g n ]
 
 -- a node that has no place, and whose parent has one, gets the next
 module _ (rows : ℕ) (par : ℕ → ℕ) (order rank : List ℕ) (k i : ℕ) (o : Ordered (rows + 1) par order rank k) (hp : 0 < i) (hi : i < rows + 1)

@@ -12,12 +12,7 @@ use Rattle.answers.specs.declared.Refusal.{Refusal}
 use Rattle.answers.specs.declared.Refusal.the-variants.{CurrentBeyond, CurrentDiffers, LoadBeyond, NameDiffers, ReportLayout, SourceDiffers, TooLong, TotalDiffers, VoltageOff, ZeroVoltage}
 use Rattle.equations.specs.Equations.{currentBeyond, currents, loadBeyond, voltages, zeroVoltage}
 use Rattle.feeder.specs.Feeder.{Feeder, reading, tooLong}
-use Rattle.feeder.specs.Network.{Held}
 use Rattle.feeder.specs.declared.Three.{Three}
-use Rattle.feeder.specs.declared.Network.{Network}
-use Rattle.reading.specs.Reading.{Arranged, ReadInto}
-use Rattle.reading.specs.declared.ReadAnswer.the-variants.{Good, Refused}
-use Rattle.reading.specs.declared.Read.{Read}
 use Rattle.report.specs.Report.{Reported, reportOf, reportedVoltages}
 use Rattle.compare.specs.Differences.{currentDiffers, nameDiffers, sourceDiffers, totalDiffers}
 use Rattle.report_check.specs.Check.{checkOf, checked, compared, verdictOf, voltageOff}
@@ -119,21 +114,6 @@ module _ (f : Feeder) (x : Reported) where
   pub goes30 : {v : Verdict} → WorkFine ≡ workOf zero large over → v ≡ verdictOf (from53 f x) → v ≡ verdictOf (from30 f x)
   unfolding from30
   goes30 e h = let w = is-fine zero large over e in rw (w .0, w .1 .0, w .1 .1) h
-
--- ---- the feeder that is read, or its refusal
-pub record FeederRead (o : Outcome Feeder) (g : Network) : Type 0 where
-  pub feeder : Feeder
-  pub came : o ≡ good feeder
-  pub held : Held feeder g
-  pub arranged : Arranged g
-
-pub feeder-read : (o : Outcome Feeder) (r : Read) (g : Network) → ReadInto o r g → r .answer ≡ Good → FeederRead o g
-feeder-read (good f) r g h e = record { feeder = f; came = refl; held = h .answered .1; arranged = h .answered .2 }
-feeder-read (refused y) r g h e = let q : Refused y ≡ Good = sym (h .answered) ∙ e in let z : _≡_ {A = ℕ} 0 1 = cc in absurd (omega arith)
-
-pub feeder-refused : (o : Outcome Feeder) (r : Read) (g : Network) (y : Refusal) → ReadInto o r g → r .answer ≡ Refused y → o ≡ refused y
-feeder-refused (good f) r g y h e = let q : Good ≡ Refused y = sym (h .answered .0) ∙ e in let z : _≡_ {A = ℕ} 0 1 = cc in absurd (omega arith)
-feeder-refused (refused w) r g y h e = let q : Refused w ≡ Refused y = sym (h .answered) ∙ e in cc
 
 -- ---- the report that is read, or 50
 pub record ReportFound (rows : ℕ) (o : Outcome Reported) (t : ReportRead) : Type 0 where

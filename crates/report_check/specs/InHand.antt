@@ -10,7 +10,7 @@ use Rattle.answers.specs.declared.Found.{Found}
 use Rattle.answers.specs.declared.Found.the-variants.{Nothing}
 use Rattle.equations.specs.Equations.{currentBeyond, downward, drawnPower, lossOf, lostPower, power, sourcePower, voltages, zero3}
 use Rattle.equations.specs.Fit.{fit}
-use Rattle.feeder.specs.Feeder.{Feeder, firstRow, parent, reading, rowCount, rowsOf, threeAt}
+use Rattle.feeder.specs.Feeder.{Feeder, firstRow, parent, rowCount, rowsOf, threeAt}
 use Rattle.feeder.specs.Network.{Held, kept}
 use Rattle.feeder.specs.RowLaws.{held, or-none}
 use Rattle.feeder.specs.declared.Network.{Network}
@@ -24,7 +24,7 @@ use Rattle.radial.specs.Radial.{parentIn}
 use Rattle.report.specs.Report.{Reported, reportedVoltages}
 use Rattle.compare.specs.Differences.{sourceDiffers}
 use Rattle.report_check.specs.Check.{belowOff, off, voltageOff}
-use Rattle.report_check.specs.CheckStages.{FeederRead, workedAt}
+use Rattle.report_check.specs.CheckStages.{workedAt}
 use Rattle.report_check.specs.Tests.{same3-true}
 use Rattle.report_reader.specs.Read.{ReportHeld, ReportRead}
 use Rattle.sweeps.specs.Sweeps.{Known, WorkedIs, workOf}
@@ -105,7 +105,3 @@ module _ (f : Feeder) (x : Reported) (g : Network) (t : ReportRead) (i : List Th
 -- a branch's parent has a place in the arrays
 pub parents-in : {g : Network} → Known g → (k : ℕ) → k < g .rows + 1 → parentIn (g .branches) k < 201
 parents-in k i q = omega (arith, k .arranged .linked .from i q, k .arranged .linked .few)
-
--- a feeder that is read
-abbrev pub known-read : (s : List ℕ) (g : Network) → FeederRead (reading s) g → Known g
-known-read s g w = record { feeder = w .feeder; held = w .held; fit = fit s (w .feeder) (w .came); arranged = w .arranged }

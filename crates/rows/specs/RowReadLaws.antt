@@ -1,7 +1,7 @@
 -- Laws of the row readers' answers, and numbers that are read one by one. Assumes nothing.
-use mathlib.Core.List.{List, [], _∷_}
-use mathlib.Core.Path.{_≡_, _∙_, ap, ap₂, refl, sym}
-use Prim.Native.Nat.{_+_, suc, zero, ℕ}
+use mathlib.Core.List.{List}
+use mathlib.Core.Path.{_≡_, _∙_, ap, refl, sym}
+use Prim.Native.Nat.{ℕ}
 use native.Mathlib.Omega.{arith}
 use lib.IntN.{pos, ℤ}
 use lib.ListN.{getD, length}
@@ -18,6 +18,7 @@ use Rattle.text.specs.declared.lines.Next.the-variants.{Behind, Bad}
 use Rattle.rows.specs.RowRead.{BranchIs, LoadIs}
 use Rattle.rows.specs.declared.branches.BranchRead.{BranchRead}
 use Rattle.rows.specs.declared.loads.LoadRead.{LoadRead}
+use Rattle.integers.specs.ListLaws.{tab-is}
 
 -- ---- the answer of a row's reader
 -- where no row was read there is no place behind it
@@ -53,14 +54,5 @@ pub load-is-as : (o q : Refusal → Outcome (Placed LoadRow)) (t : LoadRead) →
 load-is-as o q t e h = record { row = h .row; outcome = λ r. e r ∙ h .outcome r; node = h .node; numbers = h .numbers }
 
 -- ---- numbers that are read one by one are the whole
-read-from : (l : List ℤ) (k n : ℕ) (f : ℕ → ℤ) → length l ≡ n → ((j : ℕ) → f (k + j) ≡ getD l j (pos 0)) → tab f k n ≡ l
-unfolding tab
-read-from [] k zero f h e = refl
-read-from [] k (suc n) f h e = absurd (omega arith)
-read-from (x ∷ l) k zero f h e = absurd (omega arith)
-read-from (x ∷ l) k (suc n) f h e =
-    let z : k + 0 ≡ k = omega arith in
-    ap₂ (λ y (r : List ℤ). y ∷ r) (sym (ap f z) ∙ e 0) (read-from l (k + 1) n f (omega arith) (λ j. let w : (k + 1) + j ≡ k + suc j = omega arith in ap f w ∙ e (suc j)))
-
 pub all-read : (l : List ℤ) (n : ℕ) → length l ≡ n → tab (λ k. getD l k (pos 0)) 0 n ≡ l
-all-read l n h = read-from l 0 n (λ k. getD l k (pos 0)) h (λ j. let z : 0 + j ≡ j = omega arith in ap (λ (k : ℕ). getD l k (pos 0)) z)
+all-read l n h = sym (tab-is (λ k. getD l k (pos 0)) n l (pos 0) h (λ k q. refl))

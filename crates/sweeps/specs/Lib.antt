@@ -1,2 +1,3 @@
 pub mod Sweeps
 pub mod SweepsLaws
+pub mod ReadKnown

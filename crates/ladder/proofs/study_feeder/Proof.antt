@@ -6,7 +6,8 @@ use lib.ListN.{length}
 use Rattle.arrays.specs.Arrays.{networkOf}
 use Rattle.feeder.specs.Feeder.{reading}
 use Rattle.feeder.specs.declared.Network.{Network}
-use Rattle.ladder.specs.StageLaws.{ReadKnown, read-good, read-refused, study-whole, whole-read, whole-refused}
+use Rattle.ladder.specs.StageLaws.{study-whole, whole-read, whole-refused}
+use Rattle.sweeps.specs.ReadKnown.{ReadKnown, read-good, read-refused}
 use Rattle.ladder.specs.Study.{bufferOf, studyOf}
 use Rattle.ladder.specs.StudyLaws.{StudyGood, study-good}
 use Rattle.ladder.specs.declared.Study.{Study}

@@ -9,8 +9,7 @@ use Rattle.equations.specs.Limits.{DeviceOk, loss-within}
 use Rattle.equations.specs.Sizes.{Within3}
 use Rattle.feeder.specs.declared.Branch.{Branch}
 use Rattle.feeder.specs.declared.Three.{Three}
-use Rattle.integers.specs.PairLaws.{Within, within-more}
-use Rattle.passes.specs.Arrays.{more}
+use Rattle.integers.specs.PairLaws.{Within, within-le, within-more}
 use Rattle.passes.proofs.Losing.{Lost, lossIn, lost-all, lost-next, lost-none, lost-small}
 use borrow.Author.Needs.{needs}
 use native.Mathlib.Omega.{arith}
@@ -65,7 +64,7 @@ add-requires : tie.Need-add-requires Inv-loop μ-loop
 add-requires c κs =
     let d = c .before .before in
     let l = way d .before in
-    (within-more (small d) tt, more (omega (arith, l .before .pre .0)) (l .loop .inv .1 .sum-small))
+    (within-more (small d) tt, within-le (omega (arith, l .before .pre .0)) (l .loop .inv .1 .sum-small))
 
 sub-row : tie.Need-sub-row Inv-loop μ-loop
 sub-row c = search needs

@@ -6,14 +6,13 @@ use mathlib.Core.Path.{_∙_, _≡_, ap, ap₂, refl, sym}
 use lib.ListN.{getD}
 use Rattle.arrays.specs.Arrays.{branchesOf, threesOf}
 use Rattle.equations.specs.Equations.{beyond3, nearCurrent, plus3, zero3}
-use Rattle.equations.specs.Sizes.{beyond3-false, within3-more}
+use Rattle.equations.specs.Sizes.{beyond3-false, within3-le, within3-more}
 use Rattle.feeder.specs.declared.Branch.{Branch}
 use Rattle.feeder.specs.declared.Three.{Three}
 use Rattle.integers.specs.Bools.{clash}
 use Rattle.passes.specs.Passes.{Sized}
 use Rattle.passes.specs.Along.{Turn, turn}
 use Rattle.passes.proofs.Gather.{taken}
-use Rattle.passes.specs.Arrays.{more3}
 use Rattle.passes.proofs.Lift.{Fine, Gathered, all-fine, gathered-all, gathered-beyond, gathered-first, gathered-next}
 use Rattle.radial.specs.Radial.{parentIn}
 use borrow.Author.Needs.{needs}
@@ -80,7 +79,7 @@ fine c =
     record { current = in-I (j .before .before); taken-there = ap beyond3 (sym (taken-is j)) ∙ sym (c .before .beyond2 .ensures) ∙ c .if2 .left }
 
 sized : (l : tie.At-loop Inv-loop μ-loop) → Sized 1000000000 (held l)
-sized l = record { long = l .loop .inv .1 .long; each = λ j. more3 (omega (arith, l .before .pre .0 .linked .few)) (l .loop .inv .1 .each j) }
+sized l = record { long = l .loop .inv .1 .long; each = λ j. within3-le (omega (arith, l .before .pre .0 .linked .few)) (l .loop .inv .1 .each j) }
 
 loop-holds : tie.Need-loop-holds Inv-loop μ-loop
 loop-holds c =
@@ -146,7 +145,7 @@ plus-requires c κs =
     let l = way2 e .before in
     let j = e .before .before in
     let f = fine e in (
-      rw (c .three-at2 .ensures) (more3 (omega (arith, l .before .pre .0 .linked .few)) (l .loop .inv .1 .each (j .before .branch-at .result .from))),
+      rw (c .three-at2 .ensures) (within3-le (omega (arith, l .before .pre .0 .linked .few)) (l .loop .inv .1 .each (j .before .branch-at .result .from))),
       rw (taken-is j) (within3-more {m = 2000000} (beyond3-false (f .taken-there)) tt),
     )
 

@@ -3,8 +3,8 @@ use borrow.Author.Tests.{le-ltb, lt-ltb}
 use Rattle.arrays.specs.Arrays.{networkOf}
 use Rattle.feeder.specs.Feeder.{reading}
 use Rattle.feeder.specs.declared.Network.{Network}
-use Rattle.report_check.specs.CheckStages.{FeederRead, check-feeder, check-long, check-read, feeder-read, feeder-refused, promised}
-use Rattle.report_check.specs.InHand.{known-read}
+use Rattle.report_check.specs.CheckStages.{check-feeder, check-long, check-read, promised}
+use Rattle.sweeps.specs.ReadKnown.{ReadKnown, read-good, read-refused}
 use borrow.Author.Needs.{needs}
 use Rattle.report_check.proofs.check.Statement.{statement}
 use Rattle.report_check.proofs.check.Tie as tie
@@ -19,10 +19,10 @@ network p =
     networkOf (p .read-into .result .settings) (l .1 .0) (l .1 .1 .0) (l .1 .1 .1 .0) (l .1 .1 .1 .1 .0) (l .1 .1 .1 .1 .1 .0)
 
 -- the feeder that is read
-read : (c : tie.After-enum-told) → FeederRead (reading (start (c .before .before) .args .feeder .now)) (network (c .before .before))
+read : (c : tie.After-enum-told) → ReadKnown (start (c .before .before) .args .feeder .now) (network (c .before .before))
 read c =
     let p = c .before .before in
-    feeder-read (reading (start p .args .feeder .now)) (p .read-into .result) (network p) (p .read-into .ensures) (c .enum-told .given .1)
+    read-good (start p .args .feeder .now) (p .read-into .result) (network p) (p .read-into .ensures) (c .enum-told .given .1)
 
 returns : tie.Need-returns
 returns c = let a = c .before .before .before .args in promised _ _ (check-long (a .feeder .now) (a .report .now) (lt-ltb _ _ (c .if1 .taken)))
@@ -37,13 +37,13 @@ returns-2 : tie.Need-returns-2
 returns-2 c =
     let p = c .before .before .before in
     let a = start p .args in
-    promised _ _ (check-feeder (a .feeder .now) (a .report .now) (le-ltb _ _ (p .before .before .before .before .before .before .if1 .left)) _ (feeder-refused (reading (a .feeder .now)) (p .read-into .result) (network p) _ (p .read-into .ensures) (c .before .answer .given .1)))
+    promised _ _ (check-feeder (a .feeder .now) (a .report .now) (le-ltb _ _ (p .before .before .before .before .before .before .if1 .left)) _ (read-refused (reading (a .feeder .now)) (p .read-into .result) (network p) _ (p .read-into .ensures) (c .before .answer .given .1)))
 
 enum-told : tie.Need-enum-told
 enum-told c = search needs
 
 check-text-requires : tie.Need-check-text-requires
-check-text-requires c κs = known-read _ _ (read (c .before .before .before .before .before .before))
+check-text-requires c κs = read (c .before .before .before .before .before .before) .known
 
 returns-3 : tie.Need-returns-3
 returns-3 c =
@@ -51,7 +51,7 @@ returns-3 c =
     let p = e .before .before in
     let a = start p .args in
     let w = read e in
-    promised _ _ (check-read (a .feeder .now) (a .report .now) (le-ltb _ _ (p .before .before .before .before .before .before .if1 .left)) (w .feeder) (w .came) (c .check-text .ensures (w .feeder) (w .held)))
+    promised _ _ (check-read (a .feeder .now) (a .report .now) (le-ltb _ _ (p .before .before .before .before .before .before .if1 .left)) (w .feeder) (w .whole) (c .check-text .ensures (w .feeder) (w .held)))
 
 pub check-spec : {M : Type 1} → statement M
 check-spec =
