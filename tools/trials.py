@@ -15,7 +15,8 @@ import json, math, os, re, sys
 
 SPECS = 'crates/trials/specs/'
 DEFINITIONS = {'integers': 'Rounding Root Pairs Lists', 'text': 'Text Lines', 'feeder': 'Layout Feeder', 'equations': 'Equations',
-               'report': 'Report', 'iteration': 'Ladder', 'ladder': 'Study', 'compare': 'Differences', 'report_check': 'Check', 'account': 'Account'}
+               'report': 'Report', 'iteration': 'Ladder', 'ladder': 'Study', 'compare': 'Differences', 'report_check': 'Check', 'account': 'Account',
+               'answer_text': 'AnswerText', 'study_answer': 'StudyAnswer', 'check_answer': 'CheckAnswer'}
 REFUSALS = {10: 'Layout', 11: 'OutOfLimit', 20: 'UnknownFrom', 21: 'SecondTo', 22: 'NotReached', 23: 'PhaseAbsent', 24: 'NotZero',
             30: 'ZeroVoltage', 31: 'LoadBeyond', 32: 'CurrentBeyond', 33: 'VoltageBeyond', 34: 'NotSettled', 40: 'BufferShort',
             50: 'ReportLayout', 51: 'NameDiffers', 52: 'SourceDiffers', 53: 'CurrentDiffers', 54: 'VoltageOff', 55: 'TotalDiffers'}

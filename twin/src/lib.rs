@@ -38,14 +38,28 @@ pub enum Answer {
 }
 
 impl Answer {
-    /// The answer in one word: number·2^32 + value. Number 0 is a report (value: its length) or a pass (value 0).
+    /// The answer in one word: the value in bits 0 to 31, the number in bits 32 to 47, the sweeps in bits 48 to 63. Number
+    /// 0 is a report (value: its length) or a pass (value 0). Sweeps are 0 where no report was written.
     pub fn word(self) -> u64 {
-        match self {
-            Answer::Report { length, .. } => length as u64,
-            Answer::Pass => 0,
-            Answer::Refused { number, value } => u64::from(number) << 32 | value,
-        }
+        let (number, value, sweeps) = match self {
+            Answer::Report { length, sweeps } => (0, length as u64, sweeps),
+            Answer::Pass => (0, 0, 0),
+            Answer::Refused { number, value } => (number, value, 0),
+        };
+        u64::from(sweeps) << 48 | u64::from(number) << 32 | value
     }
+}
+
+/// The parts of such a word, by the names of c/flarecomb.h.
+#[derive(Clone, Copy, Debug, PartialEq, Eq)]
+pub struct Parts {
+    pub number: u64,
+    pub value: u64,
+    pub sweeps: u64,
+}
+
+pub fn parts(word: u64) -> Parts {
+    Parts { number: word >> 32 & 0xFFFF, value: word & 0xFFFF_FFFF, sweeps: word >> 48 }
 }
 
 impl From<Refusal> for Answer {
@@ -178,7 +192,12 @@ mod tests {
     #[test]
     fn words() {
         assert_eq!(refused(40, 289).word(), 40 << 32 | 289);
-        assert_eq!(Answer::Report { length: 289, sweeps: 2 }.word(), 289);
+        assert_eq!(Answer::Report { length: 289, sweeps: 2 }.word(), 2 << 48 | 289);
         assert_eq!(Answer::Pass.word(), 0);
+        assert_eq!(parts(refused(40, 289).word()), Parts { number: 40, value: 289, sweeps: 0 });
+        assert_eq!(
+            parts(Answer::Report { length: 65_536, sweeps: 100 }.word()),
+            Parts { number: 0, value: 65_536, sweeps: 100 }
+        );
     }
 }

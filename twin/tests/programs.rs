@@ -58,7 +58,7 @@ fn the_fuzzer_notices() {
         command.args(["--self", "60", "3"]).env("FUZZ_OUT", &folder).env("TWIN_WRONG", wrong);
         command.output().expect("the program runs").status.code()
     };
-    for wrong in ["answer:50", "byte:50", "behind:50", "before:50", "feeder:50", "check:10"] {
+    for wrong in ["answer:50", "sweeps:50", "byte:50", "behind:50", "before:50", "feeder:50", "check:10"] {
         assert_eq!(fuzz(wrong), Some(1), "{wrong}");
     }
     assert_eq!(fuzz(""), Some(0));

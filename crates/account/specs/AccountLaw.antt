@@ -19,8 +19,8 @@ use Rattle.feeder.specs.RowFacts.{Sized}
 use Rattle.feeder.specs.declared.Load.{Load}
 use Rattle.feeder.specs.declared.Phase.{Phase}
 use Rattle.feeder.specs.declared.Three.{Three}
-use Rattle.integers.specs.ListLaws.{All, all-map}
-use Rattle.integers.specs.Lists.{count, csum}
+use Rattle.integers.specs.ListLaws.{all-map}
+use Rattle.integers.specs.Lists.{count, csum, All}
 use Rattle.integers.specs.Near.{Near, near-abs, near-add}
 use Rattle.integers.specs.PairLaws.{Close}
 use Rattle.integers.specs.Pairs.{0c, _·*_, abs, scaled}

@@ -1,4 +1,6 @@
--- What the account says of the very feeder and report that two texts are read as, and the table of demand 3 worked by hand: none of it can be weakened. Assumes nothing.
+-- What an account gives for the very feeder and report that two texts are read as, both bounds with twice the difference; and the allowance of one line, one
+-- regulator, one transformer and one P load worked by hand. An account that gives less, and an allowance with another value at one of these four, are refused
+-- here. The allowance elsewhere, its sum over the rows and the difference are not: crate trials has their values for whole texts. Assumes nothing.
 use mathlib.Core.Bool.{false, true}
 use mathlib.Core.List.{List, [], _∷_}
 use mathlib.Core.Path.{_∙_, _≡_, ap, refl, subst, sym}

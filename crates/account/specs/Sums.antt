@@ -8,8 +8,8 @@ use native.Mathlib.Omega.{arith}
 use lib.Dec.{eqb}
 use lib.IntN.{*ℤ-zero, +ℤ-idl, +ℤ-idr, _*ℤ_, _+ℤ_, _-ℤ_, pos, ℤ}
 use borrow.Author.Tests.{eqb-false, eqb-true, ne-eqb}
-use Rattle.integers.specs.ListLaws.{All, all-map}
-use Rattle.integers.specs.Lists.{count, nsum, tab}
+use Rattle.integers.specs.ListLaws.{all-map}
+use Rattle.integers.specs.Lists.{count, nsum, tab, All}
 use Rattle.integers.specs.Near.{Near, near-add, near-refl}
 use Rattle.integers.specs.Ring.{mul-addℤ, ring}
 

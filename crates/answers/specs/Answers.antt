@@ -1,5 +1,6 @@
 -- Refusals (01): the number and the value of each, and what is either worked out or refused. Assumes nothing.
 use mathlib.Core.Bool.{Bool, true, false}
+use mathlib.Core.Path.{_≡_}
 use Prim.Native.Nat.{ℕ}
 use Rattle.answers.specs.declared.Found.{Found}
 use Rattle.answers.specs.declared.Found.the-variants.{At, Nothing}
@@ -68,6 +69,20 @@ pub data Done : Type 0 where
 abbrev pub _>>_ : {Y : Type 0} → Outcome Done → Outcome Y → Outcome Y
 good d >> y = y
 refused r >> y = refused r
+
+-- "Where an answer is an enum, a definition states this paper's number and values for each of its cases": the number and the value that are told of an
+-- outcome. Number 0 is work that is good, with a value of its own
+abbrev pub numberTold : {X : Type 0} → Outcome X → ℕ
+numberTold (good x) = 0
+numberTold (refused r) = numberOf r
+
+abbrev pub valueTold : {X : Type 0} → (X → ℕ) → Outcome X → ℕ
+valueTold of-good (good x) = of-good x
+valueTold of-good (refused r) = valueOf r
+
+pub record Told {X : Type 0} (of-good : X → ℕ) (o : Outcome X) (n v : ℕ) : Type 0 where
+  pub number : n ≡ numberTold o
+  pub value : v ≡ valueTold of-good o
 
 -- refused where a test says so; refused at the line that was found
 abbrev pub refuseIf : Bool → Refusal → Outcome Done

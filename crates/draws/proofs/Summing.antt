@@ -21,8 +21,8 @@ use Rattle.feeder.specs.NetworkLaws.{getD-kept}
 use Rattle.feeder.specs.declared.Load.{Load}
 use Rattle.feeder.specs.declared.Three.{Three}
 use Rattle.integers.specs.Bools.{cond-ind}
-use Rattle.integers.specs.ListLaws.{All, all-map, all-map2, any-false, at-all, tab-is}
-use Rattle.integers.specs.Lists.{any, csum, tab}
+use Rattle.integers.specs.ListLaws.{all-map, all-map2, any-false, at-all, tab-is}
+use Rattle.integers.specs.Lists.{any, csum, tab, All}
 use Rattle.integers.specs.PairLaws.{Within}
 use Rattle.integers.specs.Pairs.{0c, _+c_, _·*_, scaled}
 use Rattle.integers.specs.declared.Pair.{Pair}

@@ -12,8 +12,7 @@ use borrow.Author.Tests.{eq-eqb, ne-eqb}
 use Rattle.equations.specs.Equations.{plus3, sum3, zero3}
 use Rattle.equations.specs.ThreeLaws.{plus3-assoc, plus3-comm, plus3-idr}
 use Rattle.feeder.specs.declared.Three.{Three}
-use Rattle.integers.specs.ListLaws.{All}
-use Rattle.integers.specs.Lists.{any, csum, tab}
+use Rattle.integers.specs.Lists.{any, csum, tab, All}
 use Rattle.integers.specs.PairLaws.{+c-assoc, +c-comm}
 use Rattle.integers.specs.Pairs.{0c, _+c_}
 use Rattle.integers.specs.declared.Pair.{Pair}

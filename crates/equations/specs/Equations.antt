@@ -64,7 +64,7 @@ signAt s A = s .a
 signAt s B = s .b
 signAt s C = s .c
 
--- what a row of signs makes of three voltages or currents
+-- what a row of signs makes of three voltages or currents. The signs of a load's phase pick the value of that phase (`mix-phase`, Sizes)
 unfoldable pub mix : Signs → Three → Pair
 mix s x = csum (λ p. scaled (signAt s p) (at x p)) abc
 
@@ -155,7 +155,8 @@ unfoldable pub nearCurrent : Branch → Three → Three
 nearCurrent b i = masked (b .phases) (takenOf (b .device) i)
 
 -- ---- the feeder's nodes
--- what holds at node i, worked downward: `first` at the source, and `step` of what holds at its parent. k bounds the steps
+-- what holds at node i, worked downward: `first` at the source, and `step` of what holds at its parent. k bounds the steps: with as
+-- many as there are rows none is left out (`voltages-meet`, Meets)
 unfoldable pub downward : {X : Type 0} → (ℕ → X → X) → X → (ℕ → ℕ) → ℕ → ℕ → X
 downward step first par zero i = first
 downward step first par (suc k) zero = first
@@ -169,7 +170,8 @@ voltages f i = tab (downward (λ m u. farVoltage (branchAt f m) u (getD i m zero
 unfoldable pub loadsAt : Feeder → List Three → ℕ → Three
 loadsAt f v m = sum3 (λ l. let i = each (λ p. scaled (signAt (phaseSigns (l .phase)) p) (loadCurrent v l)) in cond (eqb (l .node) m) i zero3) (f .loads)
 
--- "I = load currents at m plus J of the branches leaving m, per phase". k bounds the steps
+-- "I = load currents at m plus J of the branches leaving m, per phase". k bounds the steps: with as many as there are rows none is left out
+-- (`currents-meet`, Meets)
 unfoldable pub upward : Feeder → (ℕ → Three) → ℕ → ℕ → Three
 upward f own zero m = own m
 upward f own (suc k) m =

@@ -24,8 +24,8 @@ use Rattle.feeder.specs.declared.Kind.{Kind}
 use Rattle.feeder.specs.declared.Kind.the-variants.{D, L, R, Y}
 use Rattle.feeder.specs.declared.LoadRow.{LoadRow}
 use Rattle.integers.specs.Bools.{both}
-use Rattle.integers.specs.ListLaws.{All, all-image, all-map, all-map2, at-all}
-use Rattle.integers.specs.Lists.{all}
+use Rattle.integers.specs.ListLaws.{all-image, all-map, all-map2, at-all}
+use Rattle.integers.specs.Lists.{all, All}
 use Rattle.integers.specs.PairLaws.{Within}
 use Rattle.integers.specs.Pairs.{inside}
 use Rattle.integers.specs.Whole.{abs-parts, leZ-true, neg-neg, one-part, pos-neg}

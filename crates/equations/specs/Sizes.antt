@@ -18,8 +18,8 @@ use Rattle.feeder.specs.declared.Phase.the-variants.{A, B, C}
 use Rattle.feeder.specs.declared.Phases.{Phases}
 use Rattle.feeder.specs.declared.Three.{Three}
 use Rattle.integers.specs.Bools.{clash, cond-ind}
-use Rattle.integers.specs.ListLaws.{All, all-true, true-all}
-use Rattle.integers.specs.Lists.{all, any, csum}
+use Rattle.integers.specs.ListLaws.{all-true, true-all}
+use Rattle.integers.specs.Lists.{all, any, csum, All}
 use Rattle.integers.specs.PairLaws.{+c-idl, +c-idr, Close, Within, close-true, pair-eq, true-close, true-within, within-add, within-le, within-more, within-mul-conj, within-scaled, within-sub, within-true}
 use Rattle.integers.specs.Pairs.{0c, _+c_, _·*_, _·c_, close, rndPair, scaled, within}
 use Rattle.integers.specs.Whole.{abs-parts, add-parts, neg-neg, one-part, pos-neg}

@@ -7,8 +7,7 @@ use lib.ListN.{length}
 use Rattle.equations.specs.Equations.{sum3}
 use Rattle.equations.specs.Sizes.{Within3, within-zero, within3-plus, within3-zero}
 use Rattle.feeder.specs.declared.Three.{Three}
-use Rattle.integers.specs.ListLaws.{All}
-use Rattle.integers.specs.Lists.{csum}
+use Rattle.integers.specs.Lists.{csum, All}
 use Rattle.integers.specs.PairLaws.{Within, within-add}
 use Rattle.integers.specs.Pairs.{_+c_}
 use Rattle.integers.specs.declared.Pair.{Pair}

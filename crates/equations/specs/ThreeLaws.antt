@@ -11,8 +11,7 @@ use Rattle.feeder.specs.declared.Phase.{Phase}
 use Rattle.feeder.specs.declared.Phase.the-variants.{A, B, C}
 use Rattle.feeder.specs.declared.Phases.{Phases}
 use Rattle.feeder.specs.declared.Three.{Three}
-use Rattle.integers.specs.ListLaws.{All}
-use Rattle.integers.specs.Lists.{csum}
+use Rattle.integers.specs.Lists.{csum, All}
 use Rattle.integers.specs.PairLaws.{+c-assoc, +c-comm, +c-idl, +c-idr, Close}
 use Rattle.integers.specs.Pairs.{0c, _+c_, _-c_}
 use Rattle.integers.specs.declared.Pair.{Pair}

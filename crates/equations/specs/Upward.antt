@@ -10,7 +10,7 @@ use Rattle.equations.specs.ThreeLaws.{plus3-idr, sum3-cong, sum3-zero}
 use Rattle.feeder.specs.Feeder.{Feeder, above, branchAt, parent, rowCount, rowsOf}
 use Rattle.feeder.specs.FeederLaws.{Reached}
 use Rattle.feeder.specs.declared.Three.{Three}
-use Rattle.integers.specs.ListLaws.{All}
+use Rattle.integers.specs.Lists.{All}
 
 -- one step of the recursion
 pub upward-step : (f : Feeder) (own : ℕ → Three) (k m : ℕ) → upward f own (suc k) m

@@ -17,7 +17,8 @@ use Rattle.feeder.specs.Reach.{reach-enough}
 use Rattle.feeder.specs.RowLaws.{none-bad, none-found}
 use Rattle.feeder.specs.declared.Branch.{Branch}
 use Rattle.feeder.specs.declared.BranchRow.{BranchRow}
-use Rattle.integers.specs.ListLaws.{All, all-count, getD-map}
+use Rattle.integers.specs.ListLaws.{all-count, getD-map}
+use Rattle.integers.specs.Lists.{All}
 
 pub record Sound (s : List ℕ) (f : Feeder) : Type 0 where
   pub rows : Rows

@@ -66,7 +66,7 @@ loadRow r s at = do
   good (record { node = wordOf x 0; phase = phase; kind = kind; vn = nth (x .values) 1; s = record { re = nth (x .values) 2; im = nth (x .values) 3 } }, next)
 
 -- rows from a line on ("Lines count from 1, empty ones too"), up to an empty line (the next byte is LF) or the end of the file. At most f: the tables below
--- give it as many as they have bytes, and a row takes more than one, so that none is left out
+-- give it as many as they have bytes, and that none is left out is `rows-over` (TableRows)
 unfoldable pub rows : {X : Type 0} → (Refusal → List ℕ → ℕ → Outcome (Placed X)) → ℕ → List ℕ → ℕ → ℕ → (ℕ → Bool) → Outcome (Placed (List X))
 rows read zero s line at over = good ([], at)
 rows read (suc f) s line at over = cond (over at) (good ([], at)) (do
@@ -82,7 +82,7 @@ fileEnd s at = eqb at (length s)
 
 -- the three tables, each "read as a part of the file that starts after the empty line before it"; 10 is given with the "first line that
 -- cannot go on a good file, or the line where it ends early". "One empty line stands between tables, nothing after the last"; "no or two source rows, is a
--- fault of layout"
+-- fault of layout". That this is what `layout` answers is said without it in File, and proved by `line-of-10` and `stops-at-10` (LayoutLine)
 unfoldable pub sourceTable : List ℕ → Outcome (Placed Row)
 sourceTable s = do
   p ← text (Layout 1) "source,va_re,va_im,vb_re,vb_im,vc_re,vc_im,tol,sweeps\n" s 0

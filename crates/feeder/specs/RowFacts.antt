@@ -27,7 +27,8 @@ use Rattle.feeder.specs.declared.Phase.{Phase}
 use Rattle.feeder.specs.declared.Phase.the-variants.{A, B, C}
 use Rattle.feeder.specs.declared.Phases.{Phases}
 use Rattle.integers.specs.Bools.{both, clash}
-use Rattle.integers.specs.ListLaws.{All, all-image, at-all, count-true}
+use Rattle.integers.specs.ListLaws.{all-image, at-all, count-true}
+use Rattle.integers.specs.Lists.{All}
 use Rattle.integers.specs.Whole.{abs-parts, add-parts, leZ-true, neg-neg, pos-neg, zarith}
 use Rattle.text.specs.Lines.{nth}
 

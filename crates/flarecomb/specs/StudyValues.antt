@@ -62,6 +62,9 @@ study-value s n x e = fitted-up-to s n .value x (refused-from (fitted s n) x e)
 pub study-length : (s : List ℕ) (n len k : ℕ) → studyOf s n ≡ Written len k → len ≤ 65536
 study-length s n len k e = let w = study-good s n len k e in omega (arith, w .text-length, text-short s (w .feeder) (w .solution-found) (w .read) (w .solved-as))
 
+pub study-sweeps : (s : List ℕ) (n len k : ℕ) → studyOf s n ≡ Written len k → k ≤ 100
+study-sweeps s n len k e = let w = study-good s n len k e in omega (arith, w .limit, fit s (w .feeder) (w .read) .few-sweeps)
+
 -- a buffer of 65,536 bytes is never too short: 40 is no answer, and what is answered is the report's own outcome
 report-text-short : (s : List ℕ) (t : Report) → report s ≡ good t → length (t .text) ≤ 65536
 unfolding report

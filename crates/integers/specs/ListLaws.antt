@@ -6,13 +6,8 @@ use Prim.Native.Nat.{ℕ, zero, suc, _+_, _<_}
 use native.Mathlib.Omega.{arith}
 use lib.ListN.{length, getD}
 use lib.Seq.{ext-getD}
-use Rattle.integers.specs.Lists.{all, any, tab, count}
+use Rattle.integers.specs.Lists.{All, all, any, tab, count}
 use Rattle.integers.specs.Bools.{both, joined, clash}
-
--- P of every element
-abbrev pub All : {X : Type 0} → (X → Type 0) → List X → Type 0
-All P [] = Unit {0}
-All P (x ∷ l) = P x × All P l
 
 pub all-map : {X : Type 0} {P Q : X → Type 0} (l : List X) → ((x : X) → P x → Q x) → All P l → All Q l
 all-map [] k h = tt

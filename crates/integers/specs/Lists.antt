@@ -30,3 +30,8 @@ tab f k (suc n) = f k ∷ tab f (k + 1) n
 -- k, k + 1, .., n of them
 unfoldable pub count : ℕ → ℕ → List ℕ
 count k n = tab (λ i. i) k n
+
+-- P of every element
+abbrev pub All : {X : Type 0} → (X → Type 0) → List X → Type 0
+All P [] = Unit {0}
+All P (x ∷ l) = P x × All P l

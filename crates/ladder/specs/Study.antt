@@ -1,12 +1,13 @@
 -- The study's answer for a feeder file and a buffer (01). Assumes nothing.
 use mathlib.Core.List.{List, _++_}
-use Prim.Native.Nat.{ℕ}
+use mathlib.Core.Path.{_≡_}
+use Prim.Native.Nat.{_≤_, ℕ}
 use lib.Dec.{ltb}
 use lib.ListN.{drop, length}
-use Rattle.answers.specs.Answers.{Outcome, _>>=_, _>>_, good, refuseIf, refused}
+use Rattle.answers.specs.Answers.{Outcome, Told, _>>=_, _>>_, good, numberOf, refuseIf, refused, valueOf}
 use Rattle.answers.specs.declared.Refusal.the-variants.{BufferShort}
-use Rattle.feeder.specs.Feeder.{reading}
-use Rattle.iteration.specs.Ladder.{solution}
+use Rattle.feeder.specs.Feeder.{Feeder, reading}
+use Rattle.iteration.specs.Ladder.{Solution, solution}
 use Rattle.ladder.specs.declared.Study.{Study}
 use Rattle.ladder.specs.declared.Study.the-variants.{NoReport, Written}
 use Rattle.report.specs.Report.{reportText}
@@ -44,3 +45,40 @@ studyOf s n = answered (fitted s n)
 
 unfoldable pub bufferOf : List ℕ → List ℕ → List ℕ
 bufferOf s out = filled out (fitted s (length out))
+
+-- ---- the number and the value of each case, and "the number of sweeps made": a report has number 0 and its length
+abbrev pub studyNumber : Study → ℕ
+studyNumber (Written len k) = 0
+studyNumber (NoReport x) = numberOf x
+
+abbrev pub studyValue : Study → ℕ
+studyValue (Written len k) = len
+studyValue (NoReport x) = valueOf x
+
+abbrev pub studySweeps : Study → ℕ
+studySweeps (Written len k) = k
+studySweeps (NoReport x) = 0
+
+abbrev pub reportLength : Report → ℕ
+reportLength t = length (t .text)
+
+abbrev pub sweepsTold : Outcome Report → ℕ
+sweepsTold (good t) = t .sweeps
+sweepsTold (refused r) = 0
+
+-- an answer that tells the number, the value and the sweeps of the outcome o
+pub record StudyTold (o : Outcome Report) (r : Study) : Type 0 where
+  pub told : Told reportLength o (studyNumber r) (studyValue r)
+  pub sweeps : studySweeps r ≡ sweepsTold o
+
+-- where a report of len bytes is answered, with k sweeps, for a buffer of n: the sweeps are the ladder's, from 1 to the feeder's limit
+pub record StudyGood (s : List ℕ) (n len k : ℕ) : Type 0 where
+  pub feeder : Feeder
+  pub solution-found : Solution
+  pub read : reading s ≡ good feeder
+  pub solved-as : solution feeder ≡ good solution-found
+  pub sweeps : k ≡ solution-found .sweeps
+  pub first : 1 ≤ k
+  pub limit : k ≤ feeder .limit
+  pub text-length : len ≡ length (reportText feeder (solution-found .voltages) (solution-found .currents) (solution-found .sweeps))
+  pub fits : len ≤ n

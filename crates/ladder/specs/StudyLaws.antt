@@ -12,21 +12,10 @@ use Rattle.answers.specs.declared.Refusal.the-variants.{BufferShort}
 use Rattle.feeder.specs.Feeder.{Feeder, reading}
 use Rattle.iteration.specs.Ladder.{Solution, solution}
 use Rattle.iteration.specs.LadderLaws.{sweeps-in}
-use Rattle.ladder.specs.Study.{Report, answered, fitted, report, studyOf}
+use Rattle.ladder.specs.Study.{Report, StudyGood, StudyTold, answered, fitted, report, studyOf}
+use Rattle.ladder.specs.declared.Study.{Study}
 use Rattle.ladder.specs.declared.Study.the-variants.{Written}
 use Rattle.report.specs.Report.{reportText}
-
--- "the number of sweeps made is part of the answer": it is the ladder's, from 1 to the feeder's limit
-pub record StudyGood (s : List ℕ) (n len k : ℕ) : Type 0 where
-  pub feeder : Feeder
-  pub solution-found : Solution
-  pub read : reading s ≡ good feeder
-  pub solved-as : solution feeder ≡ good solution-found
-  pub sweeps : k ≡ solution-found .sweeps
-  pub first : 1 ≤ k
-  pub limit : k ≤ feeder .limit
-  pub text-length : len ≡ length (reportText feeder (solution-found .voltages) (solution-found .currents) (solution-found .sweeps))
-  pub fits : len ≤ n
 
 -- the report behind an answer
 record Answered (x : Outcome Report) (len k : ℕ) : Type 0 where
@@ -64,3 +53,12 @@ study-good s n len k e =
       text-length = l ∙ sym (ap (λ (y : Report). length (y .text)) w);
       fits = omega arith;
     }
+
+-- every answer tells the number, the value and the sweeps of its outcome
+answered-told : (o : Outcome Report) → StudyTold o (answered o)
+answered-told (good t) = record { told = record { number = refl; value = refl }; sweeps = refl }
+answered-told (refused r) = record { told = record { number = refl; value = refl }; sweeps = refl }
+
+pub study-told : (s : List ℕ) (n : ℕ) (r : Study) → r ≡ studyOf s n → StudyTold (fitted s n) r
+unfolding studyOf
+study-told s n r e = rw e (answered-told (fitted s n))

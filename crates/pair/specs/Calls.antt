@@ -12,8 +12,8 @@ use Rattle.answers.specs.declared.Refusal.the-variants.{BufferShort}
 use Rattle.ladder.specs.Study.{Report, answered, bufferOf, filled, fitted, report, studyOf}
 use Rattle.ladder.specs.declared.Study.{Study}
 use Rattle.ladder.specs.declared.Study.the-variants.{Written}
+use Rattle.pair.specs.Pair.{Passes}
 use Rattle.pair.specs.PairHolds.{pair-law}
-use Rattle.account.specs.Account.{PowerAccount}
 use Rattle.report_check.specs.Check.{checkOf}
 use Rattle.report_check.specs.Demand.{demand3}
 use Rattle.report_check.specs.declared.Verdict.the-variants.{Pass}
@@ -36,11 +36,7 @@ pub written-passes : (s out : List ℕ) (len k : ℕ) → studyOf s (length out)
 unfolding studyOf bufferOf
 written-passes s out len k e = start-passes s out len k (fitted s (length out)) (fitted-report s (length out)) e
 
--- of an answer that is the study's and a buffer as the study leaves it: where a report was written, the check passes it, and the power account holds of it
-pub record Passes (s after : List ℕ) (len : ℕ) : Type 0 where
-  pub passes : checkOf s (take len after) ≡ Pass
-  pub account : PowerAccount s (take len after)
-
+-- of an answer that is the study's and a buffer as the study leaves it
 pub passes-written : (s before after : List ℕ) (r : Study) → r ≡ studyOf s (length before) → after ≡ bufferOf s before → (len k : ℕ) → r ≡ Written len k → Passes s after len
 passes-written s before after r e b len k w =
     let p : checkOf s (take len after) ≡ Pass = rw b (written-passes s before len k (sym e ∙ w)) in

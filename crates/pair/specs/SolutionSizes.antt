@@ -18,8 +18,8 @@ use Rattle.feeder.specs.FeederLaws.{sound}
 use Rattle.feeder.specs.ProperNames.{node-proper}
 use Rattle.feeder.specs.declared.Three.{Three}
 use Rattle.integers.specs.Bools.{clash}
-use Rattle.integers.specs.ListLaws.{All, all-count, all-map, all-map2, any-false, length-tab, tab-all}
-use Rattle.integers.specs.Lists.{any, count}
+use Rattle.integers.specs.ListLaws.{all-count, all-map, all-map2, any-false, length-tab, tab-all}
+use Rattle.integers.specs.Lists.{any, count, All}
 use Rattle.integers.specs.PairLaws.{Within, within-more}
 use Rattle.integers.specs.Pairs.{_·*_, scaled}
 use Rattle.iteration.specs.Ladder.{Solution}

@@ -16,8 +16,8 @@ use Rattle.feeder.specs.NetworkLaws.{getD-kept, length-kept}
 use Rattle.feeder.specs.declared.Branch.{Branch}
 use Rattle.feeder.specs.declared.Network.{Network}
 use Rattle.feeder.specs.declared.Three.{Three}
-use Rattle.integers.specs.ListLaws.{All, all-count, getD-tab, length-tab}
-use Rattle.integers.specs.Lists.{any, count, tab}
+use Rattle.integers.specs.ListLaws.{all-count, getD-tab, length-tab}
+use Rattle.integers.specs.Lists.{any, count, tab, All}
 use Rattle.passes.specs.Passes.{InArrays, Ready}
 use Rattle.radial.specs.Radial.{parentIn}
 use Rattle.radial.specs.Reach.{rank-short, reached}

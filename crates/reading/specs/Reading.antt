@@ -1,10 +1,10 @@
 -- What the reading of a feeder file answers, by cases of the definition's outcome. Assumes nothing.
 use mathlib.Core.List.{List}
-use mathlib.Core.Path.{_∙_, _≡_, sym}
+use mathlib.Core.Path.{_∙_, _≡_, refl, sym}
 use Prim.Native.Nat.{_+_, _<_, ℕ}
 use lib.IntN.{natAbs, ℤ}
 use lib.ListN.{getD, length}
-use Rattle.answers.specs.Answers.{Outcome, good, refused}
+use Rattle.answers.specs.Answers.{Outcome, Told, good, numberOf, refused, valueOf}
 use Rattle.answers.specs.declared.Refusal.{Refusal}
 use Rattle.arrays.specs.Arrays.{branchRows, fromNames, loadNames, loadRows, numberedBranches, numberedLoads}
 use Rattle.arrays.specs.declared.Settings.{Settings}
@@ -29,6 +29,19 @@ pub record Arranged (g : Network) : Type 0 where
   pub ranked : (i : ℕ) → i < g .rows + 1 → 0 < getD (g .rank) i 0
   pub order-size : length (g .order) ≡ 201
   pub rank-size : length (g .rank) ≡ 201
+
+-- the number and the value of each case: a good file has 0 and 0
+abbrev pub readNumber : ReadAnswer → ℕ
+readNumber Good = 0
+readNumber (Refused x) = numberOf x
+
+abbrev pub readValue : ReadAnswer → ℕ
+readValue Good = 0
+readValue (Refused x) = valueOf x
+
+-- an answer that tells the number and the value of the outcome o
+abbrev pub ReadTold : Outcome Feeder → ReadAnswer → Type 0
+ReadTold o answer = Told (λ f. 0) o (readNumber answer) (readValue answer)
 
 -- a feeder that is read stands in the network, in an order of work; else the one refusal is the answer
 abbrev pub AnsweredBy : Outcome Feeder → ReadAnswer → Network → Type 0
@@ -110,3 +123,11 @@ into-as {o} {r} {g} {bs} {ls} h b l = record { answered = go o (h .answered) }
         let y : ls ≡ g .loads = l _ (a .1 .loads) ∙ sym (a .1 .loads) in
         rw (x, y) a
     go (refused x) a = a
+
+-- such an answer tells its outcome's number and value
+pub as-told : {o : Outcome Feeder} {r : Reading} → ReadAs o r → ReadTold o (r .answer)
+as-told {o} {r} h = go o (h .answered)
+  where
+    go : (o : Outcome Feeder) → AnsweredBy o (r .answer) (r .network) → ReadTold o (r .answer)
+    go (good f) a = rw (a .0) (record { number = refl; value = refl })
+    go (refused x) a = rw a (record { number = refl; value = refl })

@@ -40,7 +40,7 @@ ghost use Rattle.feeder.specs.Layout.{Rows};
 ghost use Rattle.feeder.specs.Network.{kept, noLoad};
 ghost use Rattle.feeder.specs.declared.Branch.{Branch};
 ghost use Rattle.feeder.specs.declared.Load.{Load};
-ghost use Rattle.reading.specs.Reading.{Arranged, NumberedIn, ReadAs, ReadInto, RowsIn, Stored, settingsIn};
+ghost use Rattle.reading.specs.Reading.{Arranged, NumberedIn, ReadAs, ReadInto, ReadTold, RowsIn, Stored, settingsIn};
 ghost use Rattle.reading.specs.Stages.{from20, from22, from23};
 
 // Whether the file is a feeder.
@@ -290,7 +290,8 @@ fn loads_of(loads: &Loads) -> [Load; 300]
 
 // The feeder that a file holds, as one value.
 pub fn read_feeder(file: &[u8]) -> Reading
-    ensures { λ x. ⌜ ReadAs (reading (now (file .entry))) x ⌝ }
+    ensures answer { λ x. ⌜ ReadAs (reading (now (file .entry))) x ⌝ }
+    ensures told { λ x. ⌜ ReadTold (reading (now (file .entry))) (x .answer) ⌝ }
 {
     let mut nodes = [0u64; 201];
     let mut rows = [[0i64; 17]; 201];

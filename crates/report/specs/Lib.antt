@@ -3,3 +3,4 @@ pub mod Report
 -- Laws
 pub mod LinesBack
 pub mod RoundTrip
+pub mod ReportRead

@@ -1,62 +1,27 @@
--- A row that was written as a line is read back; so are rows one behind the other, and a table; and how long they can be. Assumes nothing.
+-- Rows that were written one behind the other are read back, and so is a table; and how long they can be. Assumes nothing.
 use mathlib.Core.List.{List, [], _++_, _∷_, append-assoc, map}
-use mathlib.Core.Path.{_∙_, _≡_, ap, sym}
+use mathlib.Core.Path.{_∙_, _≡_, ap}
 use Prim.Native.Nat.{_*_, _+_, _<_, _≤_, suc, ℕ}
 use Prim.Native.String.{String}
 use native.Mathlib.Nat.{suc-mul}
 use native.Mathlib.Omega.{arith}
 use lib.IntN.{ℤ}
 use lib.ListN.{drop, length, length-append}
-use lib.Seq.{drop-append-seam, drop-drop}
 use Rattle.answers.specs.Answers.{good}
-use Rattle.answers.specs.declared.Refusal.{Refusal}
 use Rattle.answers.specs.declared.Refusal.the-variants.{ReportLayout}
-use Rattle.integers.specs.ListLaws.{All}
-use Rattle.report.specs.Report.{joined, rowsJust, tableOf}
-use Rattle.text.specs.LineLaws.{begins-append, text-stands}
-use Rattle.text.specs.LineText.{Small, line-more, row-of-line}
-use Rattle.text.specs.Lines.{Row, row, text}
-use Rattle.text.specs.NameText.{Proper, letters-8}
+use Rattle.integers.specs.Lists.{All}
+use Rattle.report.specs.Report.{rowsJust, tableOf, tableText}
+use Rattle.text.specs.LineText.{line-more}
+use Rattle.text.specs.Lines.{Row, rowText, text, Readable}
+use Rattle.text.specs.NameText.{letters-8}
 use Rattle.text.specs.NumberText.{decimal-19}
-use Rattle.text.specs.Text.{begins, bytes, decimal, letters, line}
-
--- a row's line
-unfoldable pub rowText : Row → List ℕ
-rowText x = line (map (letters 8) (x .words) ++ map decimal (x .values))
-
--- a row of m names and n numbers that can be read from its line
-pub record Readable (m n : ℕ) (x : Row) : Type 0 where
-  pub proper : All Proper (x .words)
-  pub small : All Small (x .values)
-  pub words-are : length (x .words) ≡ m
-  pub values-are : length (x .values) ≡ n
-  pub some : 0 < n
-
--- ---- a text that stands at a place
-pub past : (s : List ℕ) (at : ℕ) (x t : List ℕ) → drop at s ≡ x ++ t → drop (at + length x) s ≡ t
-past s at x t e = sym (drop-drop (length x) at s) ∙ ap (drop (length x)) e ∙ drop-append-seam x t
-
-pub text-back : (r : Refusal) (w : String) (s : List ℕ) (at : ℕ) (t : List ℕ) → drop at s ≡ bytes w ++ t → text r w s at ≡ good (at + length (bytes w))
-text-back r w s at t e = text-stands r w s at (ap (begins (bytes w)) e ∙ begins-append (bytes w) t)
-
--- ---- a row
-pub row-back : (r : Refusal) (m n : ℕ) (x : Row) → Readable m n x → (s : List ℕ) (at : ℕ) (t : List ℕ) → drop at s ≡ rowText x ++ t → row r m n s at ≡ good (x, at + length (rowText x))
-unfolding rowText
-row-back r m n x h s at t e = go (x .values) (h .small) (h .values-are) e
-  where
-    go : (zs : List ℤ) → All Small zs → length zs ≡ n → drop at s ≡ line (map (letters 8) (x .words) ++ map decimal zs) ++ t
-        → row r m n s at ≡ good (record { words = x .words; values = zs }, at + length (line (map (letters 8) (x .words) ++ map decimal zs)))
-    go [] a c e = absurd (omega (arith, h .some))
-    go (z ∷ zs) a c e = rw (sym (h .words-are), sym c) (row-of-line r (x .words) z zs (h .proper) a s at t e)
+use Rattle.text.specs.RowText.{past, row-back, text-back}
+use Rattle.text.specs.Text.{bytes, decimal, joined, letters, line, Small}
 
 -- ---- rows one behind the other: g x is what was written for x, the line of the row h x
 pub record WrittenAs {X : Type 0} (g : X → List ℕ) (h : X → Row) (m n : ℕ) (x : X) : Type 0 where
   pub text : g x ≡ rowText (h x)
   pub readable : Readable m n (h x)
-
--- the text of a table, as the report has it
-abbrev pub tableText : {X : Type 0} → (X → List ℕ) → String → List X → List ℕ
-tableText g w l = bytes w ++ (joined g l ++ bytes "\n")
 
 module _ {X : Type 0} (g : X → List ℕ) (h : X → Row) (m n : ℕ) where
   rows-back : (l : List X) → All (WrittenAs g h m n) l → (s : List ℕ) (at : ℕ) (t : List ℕ) → drop at s ≡ joined g l ++ t → rowsJust (length l) m n s at ≡ good (map h l, at + length (joined g l))

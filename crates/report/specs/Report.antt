@@ -14,10 +14,23 @@ use Rattle.feeder.specs.declared.Three.{Three}
 use Rattle.integers.specs.Lists.{all}
 use Rattle.integers.specs.Pairs.{inside}
 use Rattle.integers.specs.declared.Pair.{Pair}
-use Rattle.text.specs.Lines.{Placed, Row, nth, row, text}
-use Rattle.text.specs.Text.{bytes, decimal, letters, line}
+use Rattle.text.specs.Lines.{Placed, Row, nth, row, rowText, text}
+use Rattle.text.specs.Text.{bytes, decimal, joined, letters, line}
 
 -- ---- the text: "A table is a line of names, exactly those shown below, then lines of values in that order, comma-separated"
+abbrev pub nodeHeader : String
+nodeHeader = "node,va_re,va_im,vb_re,vb_im,vc_re,vc_im\n"
+
+abbrev pub branchHeader : String
+branchHeader = "from,to,ia_re,ia_im,ib_re,ib_im,ic_re,ic_im,loss_p,loss_q\n"
+
+abbrev pub totalsHeader : String
+totalsHeader = "sweeps,source_p,source_q,drawn_p,drawn_q,lost_p,lost_q\n"
+
+-- a table with a line g x for each x, and the empty line after it
+abbrev pub tableText : {X : Type 0} → (X → List ℕ) → String → List X → List ℕ
+tableText g header l = bytes header ++ (joined g l ++ bytes "\n")
+
 unfoldable pub nameText : Feeder → ℕ → List ℕ
 nameText f k = letters 8 (getD (f .nodes) k 0)
 
@@ -26,11 +39,6 @@ pairText x = decimal (x .re) ∷ decimal (x .im) ∷ []
 
 abbrev pub threeText : Three → List (List ℕ)
 threeText x = pairText (x .a) ++ (pairText (x .b) ++ pairText (x .c))
-
--- one text behind the other
-unfoldable pub joined : {X : Type 0} → (X → List ℕ) → List X → List ℕ
-joined f [] = []
-joined f (x ∷ l) = f x ++ joined f l
 
 unfoldable pub nodeLine : Feeder → List Three → ℕ → List ℕ
 nodeLine f v k = line (nameText f k ∷ threeText (getD v k zero3))
@@ -43,13 +51,13 @@ totalsLine f v i k = line (decimal (pos k) ∷ pairText (sourcePower f i) ++ (pa
 
 -- "Report rows: the source, then "to" nodes and branches in the feeder's row order"
 unfoldable pub nodesText : Feeder → List Three → List ℕ
-nodesText f v = bytes "node,va_re,va_im,vb_re,vb_im,vc_re,vc_im\n" ++ (joined (nodeLine f v) (0 ∷ rowsOf f) ++ bytes "\n")
+nodesText f v = tableText (nodeLine f v) nodeHeader (0 ∷ rowsOf f)
 
 unfoldable pub branchesText : Feeder → List Three → List ℕ
-branchesText f i = bytes "from,to,ia_re,ia_im,ib_re,ib_im,ic_re,ic_im,loss_p,loss_q\n" ++ (joined (branchLine f i) (rowsOf f) ++ bytes "\n")
+branchesText f i = tableText (branchLine f i) branchHeader (rowsOf f)
 
 unfoldable pub totalsText : Feeder → List Three → List Three → ℕ → List ℕ
-totalsText f v i k = bytes "sweeps,source_p,source_q,drawn_p,drawn_q,lost_p,lost_q\n" ++ totalsLine f v i k
+totalsText f v i k = bytes totalsHeader ++ totalsLine f v i k
 
 unfoldable pub reportText : Feeder → List Three → List Three → ℕ → List ℕ
 reportText f v i k = nodesText f v ++ (branchesText f i ++ totalsText f v i k)
@@ -59,6 +67,10 @@ pub record Reported : Type 0 where
   pub nodes : List Row
   pub branches : List Row
   pub totals : List ℤ
+
+-- the text that such rows are written as: a report that is read is just this text (ReportRead)
+unfoldable pub reportedText : Reported → List ℕ
+reportedText r = tableText rowText nodeHeader (r .nodes) ++ (tableText rowText branchHeader (r .branches) ++ (bytes totalsHeader ++ line (map decimal (r .totals))))
 
 -- just k rows of m names and n numbers
 unfoldable pub rowsJust : ℕ → ℕ → ℕ → List ℕ → ℕ → Outcome (Placed (List Row))
@@ -78,7 +90,7 @@ tableOf header k m n s = do
 
 unfoldable pub lastRow : List ℕ → Outcome Row
 lastRow s = do
-  p ← text ReportLayout "sweeps,source_p,source_q,drawn_p,drawn_q,lost_p,lost_q\n" s 0
+  p ← text ReportLayout totalsHeader s 0
   (x, p) ← row ReportLayout 0 7 s p
   refuseIf (not (fileEnd s p)) ReportLayout
   good x
@@ -86,8 +98,8 @@ lastRow s = do
 -- 50: "report's layout or number of rows wrong, voltage or current beyond ±2,000,000, sweeps outside 1 to the limit"
 unfoldable pub reportOf : Feeder → List ℕ → Outcome Reported
 reportOf f s = do
-  (nodes, p) ← tableOf "node,va_re,va_im,vb_re,vb_im,vc_re,vc_im\n" (suc (rowCount f)) 1 6 s
-  (branches, q) ← tableOf "from,to,ia_re,ia_im,ib_re,ib_im,ic_re,ic_im,loss_p,loss_q\n" (rowCount f) 2 8 (drop p s)
+  (nodes, p) ← tableOf nodeHeader (suc (rowCount f)) 1 6 s
+  (branches, q) ← tableOf branchHeader (rowCount f) 2 8 (drop p s)
   totals ← lastRow (drop q (drop p s))
   refuseIf (not (all (λ r. all (inside 2000000) (r .values)) nodes)) ReportLayout
   refuseIf (not (all (λ r. all (inside 2000000) (take 6 (r .values))) branches)) ReportLayout

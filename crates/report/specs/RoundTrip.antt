@@ -3,7 +3,6 @@ use mathlib.Core.Bool.{false, true}
 use mathlib.Core.List.{List, [], _++_, _∷_, append-nil, map}
 use mathlib.Core.Path.{_∙_, _≡_, ap, refl, sym}
 use Prim.Native.Nat.{_*_, _+_, _<_, _≤_, suc, zero, ℕ}
-use Prim.Native.String.{String}
 use native.Mathlib.Omega.{arith}
 use lib.Dec.{eqb}
 use lib.IntN.{pos, ℤ}
@@ -17,17 +16,16 @@ use Rattle.equations.specs.Sizes.{Within3}
 use Rattle.feeder.specs.Feeder.{Feeder, between, pairAt, parent, rowCount, rowsOf, threeAt, tooLong}
 use Rattle.feeder.specs.declared.Three.{Three}
 use Rattle.integers.specs.Bools.{joined as and-true}
-use Rattle.integers.specs.ListLaws.{All, all-count, all-image, getD-map, getD-tab, length-tab, true-all}
-use Rattle.integers.specs.Lists.{all, count, tab}
+use Rattle.integers.specs.ListLaws.{all-count, all-image, getD-map, getD-tab, length-tab, true-all}
+use Rattle.integers.specs.Lists.{all, count, tab, All}
 use Rattle.integers.specs.PairLaws.{Within, within-more}
 use Rattle.integers.specs.Pairs.{0c, inside}
 use Rattle.integers.specs.declared.Pair.{Pair}
-use Rattle.report.specs.LinesBack.{Readable, WrittenAs, past, row-back, row-short, rowText, rows-short, table-back, text-back}
-use Rattle.report.specs.Report.{Reported, branchLine, branchesText, joined, lastRow, nameText, nodeLine, nodesText, reportOf, reportText, reportedCurrents, reportedDrawn, reportedLosses, reportedLost, reportedSource, reportedVoltages, tableOf, totalsLine, totalsText}
-use Rattle.text.specs.LineText.{Small}
-use Rattle.text.specs.Lines.{Row, nth}
-use Rattle.text.specs.NameText.{Proper}
-use Rattle.text.specs.Text.{bytes}
+use Rattle.report.specs.LinesBack.{WrittenAs, row-short, rows-short, table-back}
+use Rattle.report.specs.Report.{Reported, branchHeader, branchLine, branchesText, lastRow, nameText, nodeHeader, nodeLine, nodesText, reportOf, reportText, reportedCurrents, reportedDrawn, reportedLosses, reportedLost, reportedSource, reportedVoltages, tableOf, totalsHeader, totalsLine, totalsText}
+use Rattle.text.specs.Lines.{Row, nth, rowText, Readable}
+use Rattle.text.specs.RowText.{past, row-back, text-back}
+use Rattle.text.specs.Text.{bytes, joined, Small, Proper}
 
 -- ---- the rows
 abbrev pub values2 : Pair → List ℤ
@@ -128,25 +126,24 @@ module _ (f : Feeder) (v i : List Three) (k : ℕ) (w : Writable f v i k) where
   abbrev rest : List ℕ
   rest = branchesText f i ++ totalsText f v i k
 
-  nodes-back : tableOf "node,va_re,va_im,vb_re,vb_im,vc_re,vc_im\n" (suc (rowCount f)) 1 6 (nodesText f v ++ rest) ≡ good (map (rowOfNode f v) (0 ∷ rowsOf f), length (nodesText f v))
+  nodes-back : tableOf nodeHeader (suc (rowCount f)) 1 6 (nodesText f v ++ rest) ≡ good (map (rowOfNode f v) (0 ∷ rowsOf f), length (nodesText f v))
   unfolding nodesText count
-  nodes-back = rw (length-tab (λ (j : ℕ). j) 1 (rowCount f)) at (table-back (nodeLine f v) (rowOfNode f v) 1 6 "node,va_re,va_im,vb_re,vb_im,vc_re,vc_im\n" (0 ∷ rowsOf f) nodes-written rest)
+  nodes-back = rw (length-tab (λ (j : ℕ). j) 1 (rowCount f)) at (table-back (nodeLine f v) (rowOfNode f v) 1 6 nodeHeader (0 ∷ rowsOf f) nodes-written rest)
 
-  branches-back : tableOf "from,to,ia_re,ia_im,ib_re,ib_im,ic_re,ic_im,loss_p,loss_q\n" (rowCount f) 2 8 rest ≡ good (map (rowOfBranch f i) (rowsOf f), length (branchesText f i))
+  branches-back : tableOf branchHeader (rowCount f) 2 8 rest ≡ good (map (rowOfBranch f i) (rowsOf f), length (branchesText f i))
   unfolding branchesText count
-  branches-back = rw (length-tab (λ (j : ℕ). j) 1 (rowCount f)) at (table-back (branchLine f i) (rowOfBranch f i) 2 8 "from,to,ia_re,ia_im,ib_re,ib_im,ic_re,ic_im,loss_p,loss_q\n" (rowsOf f) branches-written (totalsText f v i k))
+  branches-back = rw (length-tab (λ (j : ℕ). j) 1 (rowCount f)) at (table-back (branchLine f i) (rowOfBranch f i) 2 8 branchHeader (rowsOf f) branches-written (totalsText f v i k))
 
   totals-back : lastRow (totalsText f v i k) ≡ good (rowOfTotals f v i k)
   unfolding lastRow totalsText
   totals-back =
-      let h : String = "sweeps,source_p,source_q,drawn_p,drawn_q,lost_p,lost_q\n" in
       let x : Row = rowOfTotals f v i k in
-      let s : List ℕ = bytes h ++ totalsLine f v i k in
-      let p : ℕ = 0 + length (bytes h) in
-      let d : drop p s ≡ rowText x ++ [] = past s 0 (bytes h) (totalsLine f v i k) refl ∙ totals-written ∙ sym (append-nil (rowText x)) in
-      let e : length s ≡ length (bytes h) + length (totalsLine f v i k) = length-append (bytes h) (totalsLine f v i k) in
+      let s : List ℕ = bytes totalsHeader ++ totalsLine f v i k in
+      let p : ℕ = 0 + length (bytes totalsHeader) in
+      let d : drop p s ≡ rowText x ++ [] = past s 0 (bytes totalsHeader) (totalsLine f v i k) refl ∙ totals-written ∙ sym (append-nil (rowText x)) in
+      let e : length s ≡ length (bytes totalsHeader) + length (totalsLine f v i k) = length-append (bytes totalsHeader) (totalsLine f v i k) in
       let n : eqb (p + length (rowText x)) (length s) ≡ true = eq-eqb (p + length (rowText x)) (length s) (omega (arith, ap length totals-written)) in
-      simp (text-back ReportLayout h s 0 (totalsLine f v i k) refl, row-back ReportLayout 0 7 x totals-readable s p [] d, n)
+      simp (text-back ReportLayout totalsHeader s 0 (totalsLine f v i k) refl, row-back ReportLayout 0 7 x totals-readable s p [] d, n)
 
   -- ---- the limits of 50
   nodes-in : all (λ r. all (inside 2000000) (r .values)) (map (rowOfNode f v) (0 ∷ rowsOf f)) ≡ true

@@ -3,7 +3,7 @@ use mathlib.Core.Bool.{Bool, _&&_, cond, false, not, true}
 use mathlib.Core.List.{List}
 use Prim.Native.Nat.{ℕ}
 use lib.ListN.{getD}
-use Rattle.answers.specs.Answers.{Done, Outcome, _>>=_, _>>_, done, good, refuseAt, refuseIf, refused}
+use Rattle.answers.specs.Answers.{Done, Outcome, Told, _>>=_, _>>_, done, good, numberOf, refuseAt, refuseIf, refused, valueOf}
 use Rattle.answers.specs.declared.Found.{Found}
 use Rattle.answers.specs.declared.Refusal.the-variants.{CurrentBeyond, CurrentDiffers, LoadBeyond, NameDiffers, SourceDiffers, TooLong, TotalDiffers, VoltageOff, ZeroVoltage}
 use Rattle.compare.specs.Differences.{currentDiffers, firstNode, nameDiffers, sourceDiffers, totalDiffers}
@@ -58,3 +58,16 @@ verdictOf (refused r) = Fail r
 
 unfoldable pub checkOf : List ℕ → List ℕ → Verdict
 checkOf s t = verdictOf (checked s t)
+
+-- ---- the number and the value of each case: a pass has 0 and 0
+abbrev pub checkNumber : Verdict → ℕ
+checkNumber Pass = 0
+checkNumber (Fail x) = numberOf x
+
+abbrev pub checkValue : Verdict → ℕ
+checkValue Pass = 0
+checkValue (Fail x) = valueOf x
+
+-- a verdict that tells the number and the value of the outcome o
+abbrev pub CheckTold : Outcome Done → Verdict → Type 0
+CheckTold o v = Told (λ d. 0) o (checkNumber v) (checkValue v)

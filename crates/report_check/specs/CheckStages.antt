@@ -15,7 +15,7 @@ use Rattle.feeder.specs.Feeder.{Feeder, reading, tooLong}
 use Rattle.feeder.specs.declared.Three.{Three}
 use Rattle.report.specs.Report.{Reported, reportOf, reportedVoltages}
 use Rattle.compare.specs.Differences.{currentDiffers, nameDiffers, sourceDiffers, totalDiffers}
-use Rattle.report_check.specs.Check.{checkOf, checked, compared, verdictOf, voltageOff}
+use Rattle.report_check.specs.Check.{CheckTold, checkOf, checked, compared, verdictOf, voltageOff}
 use Rattle.report_check.specs.Demand.{demand3}
 use Rattle.report_check.specs.declared.Verdict.{Verdict}
 use Rattle.report_check.specs.declared.Verdict.the-variants.{Fail, Pass}
@@ -152,6 +152,15 @@ module _ (s t : List ℕ) where
     unfolding checkOf checked from50
     check-read f e h = rw (short, e) h
 
--- both of the check's promises, by the first
-pub promised : (s t : List ℕ) {v : Verdict} → v ≡ checkOf s t → (v ≡ checkOf s t) × (v ≡ Pass → PowerAccount s t)
-promised s t e = (e, λ p. demand3 s t (sym e ∙ p))
+-- every verdict tells the number and the value of its outcome
+verdict-told : (o : Outcome Done) → CheckTold o (verdictOf o)
+verdict-told (good d) = record { number = refl; value = refl }
+verdict-told (refused r) = record { number = refl; value = refl }
+
+pub check-told : (s t : List ℕ) {v : Verdict} → v ≡ checkOf s t → CheckTold (checked s t) v
+unfolding checkOf
+check-told s t e = rw e (verdict-told (checked s t))
+
+-- all of the check's promises, by the first
+pub promised : (s t : List ℕ) {v : Verdict} → v ≡ checkOf s t → (v ≡ checkOf s t) × ((v ≡ Pass → PowerAccount s t) × CheckTold (checked s t) v)
+promised s t e = (e, (λ p. demand3 s t (sym e ∙ p), check-told s t e))

@@ -16,8 +16,8 @@ use Rattle.feeder.specs.RowLaws.{each-true, held, nodes-none, none-nodes, none-
 use Rattle.feeder.specs.declared.Phase.{Phase}
 use Rattle.feeder.specs.declared.Three.{Three}
 use Rattle.integers.specs.Bools.{both, joined}
-use Rattle.integers.specs.ListLaws.{All, all-map, all-true, true-all}
-use Rattle.integers.specs.Lists.{all}
+use Rattle.integers.specs.ListLaws.{all-map, all-true, true-all}
+use Rattle.integers.specs.Lists.{all, All}
 use Rattle.integers.specs.PairLaws.{close-true, same-true, true-close, true-same}
 use Rattle.integers.specs.Pairs.{0c, close, same}
 use Rattle.integers.specs.declared.Pair.{Pair}

@@ -1,7 +1,7 @@
 // The check: whether a report belongs to its feeder. specs/Check.antt says what it answers, specs/Demand.antt what a pass implies.
 ghost use mathlib.Core.Path.{_≡_};
 ghost use Rattle.account.specs.Account.{PowerAccount};
-ghost use Rattle.report_check.specs.Check.{checkOf};
+ghost use Rattle.report_check.specs.Check.{CheckTold, checkOf, checked};
 use crate::stages::check_text;
 use answers::Refusal;
 use reading::ReadAnswer;
@@ -18,6 +18,7 @@ pub enum Verdict {
 pub fn check(feeder: &[u8], report: &[u8]) -> Verdict
     ensures answer { λ r. ⌜ r ≡ checkOf (now (feeder .entry)) (now (report .entry)) ⌝ }
     ensures account { λ r. ⌜ (r ≡ Verdict.Pass → PowerAccount (now (feeder .entry)) (now (report .entry))) ⌝ }
+    ensures told { λ r. ⌜ CheckTold (checked (now (feeder .entry)) (now (report .entry))) r ⌝ }
 {
     if 65536 < report.len() {
         return Verdict::Fail(Refusal::TooLong);

@@ -9,8 +9,8 @@ use lib.ListN.{drop, getD, length, length-append, length-map, replicate, take}
 use Rattle.answers.specs.Answers.{_>>_, Outcome, good, refuseIf, refused}
 use Rattle.answers.specs.declared.Refusal.the-variants.{ReportLayout}
 use Rattle.integers.specs.Bools.{both}
-use Rattle.integers.specs.ListLaws.{All, all-image, all-map, all-true}
-use Rattle.integers.specs.Lists.{all}
+use Rattle.integers.specs.ListLaws.{all-image, all-map, all-true}
+use Rattle.integers.specs.Lists.{all, All}
 use Rattle.integers.specs.Pairs.{0c, inside}
 use Rattle.arrays.specs.Arrays.{noNumbers, pairOf, pairsOf, threeOf, threesOf}
 use Rattle.text.specs.Lines.{Placed, Row, nth}

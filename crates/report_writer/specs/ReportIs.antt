@@ -14,11 +14,11 @@ use Rattle.feeder.specs.declared.Three.{Three}
 use Rattle.integers.specs.Lists.{count, tab}
 use Rattle.integers.specs.Pairs.{0c}
 use Rattle.integers.specs.declared.Pair.{Pair}
-use Rattle.report.specs.Report.{branchLine, branchesText, joined, nameText, nodeLine, nodesText, pairText, reportText, threeText, totalsLine, totalsText}
+use Rattle.report.specs.Report.{branchLine, branchesText, nameText, nodeLine, nodesText, pairText, reportText, threeText, totalsLine, totalsText}
 use Rattle.report_lines.specs.Lines.{branchRow, nodeRow, pairFields, threeFields, totalsRow}
 use Rattle.report_writer.specs.Tables.{branchLineAt, branchTable, fromIn, Given, linesFrom, nodeLineAt, nodeTable, totalsTable, wholeText}
 use Rattle.report_lines.specs.declared.Figures.{Figures}
-use Rattle.text.specs.Text.{bytes, decimal, letters, line}
+use Rattle.text.specs.Text.{bytes, decimal, joined, letters, line}
 
 -- the arrays show the feeder f with its voltages vs and currents is: by node number names, branches, voltages, currents and losses; and the totals
 pub record Shown (f : Feeder) (vs is : List Three) (nodes : List ℕ) (branches : List Branch) (rows : ℕ) (v i : List Three) (losses : List Pair) (g : Figures) : Type 0 where

@@ -12,13 +12,13 @@ use Rattle.feeder.specs.declared.Three.{Three}
 use Rattle.integers.specs.Lists.{count, tab}
 use Rattle.integers.specs.PairLaws.{Within}
 use Rattle.integers.specs.declared.Pair.{Pair}
-use Rattle.report.specs.Report.{branchLine, branchesText, joined, nameText, nodeLine, nodesText, reportText, totalsLine, totalsText}
+use Rattle.report.specs.Report.{branchLine, branchesText, nameText, nodeLine, nodesText, reportText, totalsLine, totalsText}
 use Rattle.report_lines.specs.LineLaws.{Short, branch-most, node-most, totals-most}
 use Rattle.report_writer.specs.ReportIs.{Shown, branch-line, node-line, report-is, totals-line}
 use Rattle.report_writer.specs.Tables.{wholeText}
 use Rattle.report_lines.specs.declared.Figures.{Figures}
 use Rattle.text.specs.NumberText.{decimal-19, decimal-short}
-use Rattle.text.specs.Text.{bytes}
+use Rattle.text.specs.Text.{bytes, joined}
 
 -- at most 200 rows, voltages and currents within ±2,000,000, and powers of at most 18 digits
 pub record Limited (f : Feeder) (v i : List Three) : Type 0 where

@@ -5,11 +5,10 @@ use Prim.Native.Nat.{_+_, _-_, _<_, _≤_, suc, ℕ}
 use native.Mathlib.Omega.{arith}
 use lib.ListN.{length, length-append}
 use Rattle.integers.specs.Lists.{count, tab}
-use Rattle.report.specs.Report.{joined}
 use Rattle.report_lines.specs.Lines.{totalsRow}
 use Rattle.report_writer.specs.Tables.{branchTable, linesFrom, nodeTable, totalsTable}
 use Rattle.report_lines.specs.declared.Figures.{Figures}
-use Rattle.text.specs.Text.{bytes}
+use Rattle.text.specs.Text.{bytes, joined}
 
 -- ---- the lines k to n
 pub lines-next : (g : ℕ → List ℕ) (k n : ℕ) → k ≤ n → linesFrom g k n ≡ g k ++ linesFrom g (k + 1) n

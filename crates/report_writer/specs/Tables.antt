@@ -9,10 +9,9 @@ use Rattle.integers.specs.Pairs.{0c}
 use Rattle.integers.specs.declared.Pair.{Pair}
 use mathlib.Core.List.{List, [], _++_, _∷_}
 use Rattle.integers.specs.Lists.{count}
-use Rattle.report.specs.Report.{joined}
 use Rattle.report_lines.specs.Lines.{branchRow, nodeRow, totalsRow}
 use Rattle.report_lines.specs.declared.Figures.{Figures}
-use Rattle.text.specs.Text.{bytes}
+use Rattle.text.specs.Text.{bytes, joined}
 
 -- ---- tables: the lines k to n, and each table with its line of column names
 unfoldable pub linesFrom : (ℕ → List ℕ) → ℕ → ℕ → List ℕ

@@ -8,4 +8,5 @@ pub mod NumberText
 pub mod NameText
 pub mod LineLaws
 pub mod LineText
+pub mod RowText
 pub mod Stores

@@ -24,40 +24,40 @@ use Rattle.text.specs.declared.lines.Next.the-variants.{Bad, Behind}
 
 -- ---- numbers
 -- the values read so far, in front of those that come
-abbrev pub joined : List ℤ → Outcome (Placed (List ℤ)) → Outcome (Placed (List ℤ))
-joined l (good x) = good (l ++ x .0, x .1)
-joined l (refused r) = refused r
+abbrev pub inFront : List ℤ → Outcome (Placed (List ℤ)) → Outcome (Placed (List ℤ))
+inFront l (good x) = good (l ++ x .0, x .1)
+inFront l (refused r) = refused r
 
 -- the number at the place, and then the others
 abbrev pub onNumber : Refusal → List ℤ → Field → (ℕ → Outcome (Placed (List ℤ))) → Outcome (Placed (List ℤ))
-onNumber r l (Number z next) k = joined (l ++ (z ∷ [])) (k next)
+onNumber r l (Number z next) k = inFront (l ++ (z ∷ [])) (k next)
 onNumber r l NotNumber k = refused r
 
-joined-none : (o : Outcome (Placed (List ℤ))) → joined [] o ≡ o
-joined-none (good x) = refl
-joined-none (refused r) = refl
+front-none : (o : Outcome (Placed (List ℤ))) → inFront [] o ≡ o
+front-none (good x) = refl
+front-none (refused r) = refl
 
-joined-cons : (l : List ℤ) (z : ℤ) (o : Outcome (Placed (List ℤ))) → joined l (o >>= λ x. good (z ∷ x .0, x .1)) ≡ joined (l ++ (z ∷ [])) o
-joined-cons l z (good x) = ap (λ (y : List ℤ). good (y, x .1)) (sym (append-assoc l (z ∷ []) (x .0)))
-joined-cons l z (refused r) = refl
+front-cons : (l : List ℤ) (z : ℤ) (o : Outcome (Placed (List ℤ))) → inFront l (o >>= λ x. good (z ∷ x .0, x .1)) ≡ inFront (l ++ (z ∷ [])) o
+front-cons l z (good x) = ap (λ (y : List ℤ). good (y, x .1)) (sym (append-assoc l (z ∷ []) (x .0)))
+front-cons l z (refused r) = refl
 
-pub numbers-start : (r : Refusal) (n : ℕ) (s : List ℕ) (at : ℕ) → numbers r n s at ≡ joined [] (numbers r n s at)
-numbers-start r n s at = sym (joined-none (numbers r n s at))
+pub numbers-start : (r : Refusal) (n : ℕ) (s : List ℕ) (at : ℕ) → numbers r n s at ≡ inFront [] (numbers r n s at)
+numbers-start r n s at = sym (front-none (numbers r n s at))
 
-pub numbers-none : (r : Refusal) (s : List ℕ) (at : ℕ) (l : List ℤ) → joined l (numbers r 0 s at) ≡ good (l, at)
+pub numbers-none : (r : Refusal) (s : List ℕ) (at : ℕ) (l : List ℤ) → inFront l (numbers r 0 s at) ≡ good (l, at)
 unfolding numbers
 numbers-none r s at l = simp append-nil
 
 pub numbers-more : (r : Refusal) (n : ℕ) (s : List ℕ) (at : ℕ) (l : List ℤ) → 0 < n →
-    joined l (numbers r n s at) ≡ onNumber r l (numberAt (sepOf (n - 1)) s at) (numbers r (n - 1) s)
+    inFront l (numbers r n s at) ≡ onNumber r l (numberAt (sepOf (n - 1)) s at) (numbers r (n - 1) s)
 unfolding numbers
 numbers-more r zero s at l h = absurd (not-suc-le-zero h)
 numbers-more r (suc n) s at l h =
     let e : suc n - 1 ≡ n = omega arith in
     simp e (on (numberAt (sepOf n) s at))
   where
-    on : (x : Field) → joined l (gotNumber r x >>= λ y. numbers r n s (y .1) >>= λ w. good (y .0 ∷ w .0, w .1)) ≡ onNumber r l x (numbers r n s)
-    on (Number z next) = joined-cons l z (numbers r n s next)
+    on : (x : Field) → inFront l (gotNumber r x >>= λ y. numbers r n s (y .1) >>= λ w. good (y .0 ∷ w .0, w .1)) ≡ onNumber r l x (numbers r n s)
+    on (Number z next) = front-cons l z (numbers r n s next)
     on NotNumber = refl
 
 -- ---- names, and a row of both

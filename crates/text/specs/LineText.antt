@@ -9,16 +9,12 @@ use lib.ListN.{drop, length, length-append}
 use borrow.Author.Tests.{ne-eqb}
 use Rattle.answers.specs.Answers.{good}
 use Rattle.answers.specs.declared.Refusal.{Refusal}
-use Rattle.integers.specs.ListLaws.{All}
+use Rattle.integers.specs.Lists.{All}
 use Rattle.text.specs.LineLaws.{names-cons, names-none, numbers-cons, numbers-nil, row-good}
 use Rattle.text.specs.Lines.{names, numbers, row}
-use Rattle.text.specs.NameText.{Proper, read-name-at}
+use Rattle.text.specs.NameText.{read-name-at}
 use Rattle.text.specs.NumberText.{behind, read-at}
-use Rattle.text.specs.Text.{decimal, letters, line}
-
--- a number that can be read
-abbrev pub Small : ℤ → Type 0
-Small z = natAbs z < 1000000000000000000
+use Rattle.text.specs.Text.{decimal, letters, line, Proper, Small}
 
 pub line-more : (x : List ℕ) (l : List (List ℕ)) → 0 < length l → line (x ∷ l) ≡ x ++ (44 ∷ line l)
 unfolding line

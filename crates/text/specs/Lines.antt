@@ -1,7 +1,8 @@
 -- Files (01): a line as a row of names and numbers, and lines that are given word for word. Assumes nothing.
 use mathlib.Core.Bool.{cond}
-use mathlib.Core.List.{List, [], _∷_}
-use Prim.Native.Nat.{ℕ, zero, suc, _+_, _-_}
+use mathlib.Core.List.{List, [], _++_, _∷_, map}
+use mathlib.Core.Path.{_≡_}
+use Prim.Native.Nat.{ℕ, zero, suc, _+_, _-_, _<_}
 use Prim.Native.String.{String}
 use lib.Dec.{eqb}
 use lib.IntN.{ℤ, pos}
@@ -10,9 +11,10 @@ use Rattle.text.specs.declared.Field.{Field}
 use Rattle.text.specs.declared.Field.the-variants.{Number, NotNumber}
 use Rattle.text.specs.declared.Word.{Word}
 use Rattle.text.specs.declared.Word.the-variants.{Name, NoName}
+use Rattle.integers.specs.Lists.{All}
 use Rattle.answers.specs.declared.Refusal.{Refusal}
 use Rattle.answers.specs.Answers.{Outcome, good, refused, _>>=_}
-use Rattle.text.specs.Text.{bytes, numberAt, nameAt, begins}
+use Rattle.text.specs.Text.{Proper, Small, bytes, numberAt, nameAt, begins, decimal, letters, line}
 
 -- a value, and the place behind its text
 abbrev pub Placed : Type 0 → Type 0
@@ -71,3 +73,15 @@ nth l k = getD l (k - 1) (pos 0)
 unfoldable pub listed : {X : Type 0} → Refusal → ℕ → List (ℕ × X) → Outcome X
 listed r w [] = refused r
 listed r w (x ∷ l) = cond (eqb w (x .0)) (good (x .1)) (listed r w l)
+
+-- a row written as a line: its names, then its numbers
+unfoldable pub rowText : Row → List ℕ
+rowText x = line (map (letters 8) (x .words) ++ map decimal (x .values))
+
+-- a row of m names and n numbers, at least one, that can be written and read: its names are names, its numbers have at most 18 digits
+pub record Readable (m n : ℕ) (x : Row) : Type 0 where
+  pub proper : All Proper (x .words)
+  pub small : All Small (x .values)
+  pub words-are : length (x .words) ≡ m
+  pub values-are : length (x .values) ≡ n
+  pub some : 0 < n

@@ -11,9 +11,9 @@ use lib.Dec.{leb, ltb}
 use lib.ListN.{drop, length, length-append}
 use borrow.Author.Tests.{eq-eqb, le-ltb, leb-true, lt-ltb, ltb-true, ne-eqb}
 use Rattle.integers.specs.Bools.{both, clash}
-use Rattle.integers.specs.ListLaws.{All}
+use Rattle.integers.specs.Lists.{All}
 use Rattle.text.specs.NumberText.{Stands, stands-past}
-use Rattle.text.specs.Text.{letter, letters, name, nameAt, pack}
+use Rattle.text.specs.Text.{letter, letters, name, nameAt, pack, Proper}
 use Rattle.text.specs.TextLaws.{letters-fit, letters-longer, letters-more, letters-none, letters-zero}
 use Rattle.text.specs.declared.Word.{Word}
 use Rattle.text.specs.declared.Word.the-variants.{Name, NoName}
@@ -108,12 +108,6 @@ spelled sep (b ∷ s) i v k w n h p q e = by (ℕ-discrete b sep) (ℕ-discrete 
           spells = λ f. simp (add-zero, append-nil, c);
         }
     by (no x) y ih = on (letter b && ltb v 72057594037927936) refl (simp (ne-eqb b sep x) at e) ih
-
--- the number of a name: 1 to 8 letters
-pub record Proper (v : ℕ) : Type 0 where
-  pub some : 0 < v
-  pub fits : v < 18446744073709551616
-  pub made : All (λ b. letter b ≡ true) (letters 8 v)
 
 -- a name that was read is a name, and stands there as its number spells it
 pub record Named (sep : ℕ) (l : List ℕ) (i v n : ℕ) : Type 0 where

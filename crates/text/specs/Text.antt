@@ -1,13 +1,15 @@
 -- Files (01): numbers, names and words as text. A text is the list of its bytes. Assumes nothing.
 use mathlib.Core.Bool.{Bool, true, false, cond, _&&_}
 use mathlib.Core.List.{List, [], _∷_, _++_}
-use Prim.Native.Nat.{ℕ, zero, suc, _+_, _-_, _*_, _/_, _%_}
+use mathlib.Core.Path.{_≡_}
+use Prim.Native.Nat.{ℕ, zero, suc, _+_, _-_, _*_, _/_, _%_, _<_}
 use Prim.Native.String.{String, [] as ε, _∷_ as _◃_}
 use Prim.Native.Char.{code}
 use lib.Dec.{ltb, leb, eqb}
 use lib.IntN.{ℤ, pos, negℤ, natAbs}
 use lib.Signed.{ltZ}
 use lib.ListN.{drop}
+use Rattle.integers.specs.Lists.{All}
 use Rattle.text.specs.declared.Field.{Field}
 use Rattle.text.specs.declared.Field.the-variants.{Number, NotNumber}
 use Rattle.text.specs.declared.Word.{Word}
@@ -91,3 +93,17 @@ unfoldable pub line : List (List ℕ) → List ℕ
 line [] = 10 ∷ []
 line (x ∷ []) = x ++ (10 ∷ [])
 line (x ∷ (y ∷ l)) = x ++ (44 ∷ line (y ∷ l))
+
+-- a number that can be written and read, of at most 18 digits, and the number of a name, of 1 to 8 letters
+abbrev pub Small : ℤ → Type 0
+Small z = natAbs z < 1000000000000000000
+
+pub record Proper (v : ℕ) : Type 0 where
+  pub some : 0 < v
+  pub fits : v < 18446744073709551616
+  pub made : All (λ b. letter b ≡ true) (letters 8 v)
+
+-- one text behind the other
+unfoldable pub joined : {X : Type 0} → (X → List ℕ) → List X → List ℕ
+joined f [] = []
+joined f (x ∷ l) = f x ++ joined f l

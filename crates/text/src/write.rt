@@ -34,7 +34,7 @@ pub fn put_bytes(out: &mut [u8], at: usize, text: &[u8]) -> usize
 }
 
 // How many digits n has, at most places.
-fn digits_width(n: u64, places: usize) -> usize
+pub fn digits_width(n: u64, places: usize) -> usize
     ensures { λ r. ⌜ r ≡ length (digits places n) ⌝ }
 {
     if places == 0 {
@@ -47,7 +47,7 @@ fn digits_width(n: u64, places: usize) -> usize
 }
 
 // The digits of n, the last of them first: how many there are says where it stands.
-fn put_digits(out: &mut [u8], at: usize, n: u64) -> usize
+pub fn put_digits(out: &mut [u8], at: usize, n: u64) -> usize
     requires { ⌜ at + length (digits 20 n) ≤ length (now out) ⌝ }
     ensures { λ r. ⌜ Written (now (out .entry)) at (digits 20 n) r (now (out .exit)) ⌝ }
 {

@@ -5,12 +5,14 @@ use Prim.Native.Nat.{ℕ}
 use lib.IntN.{pos}
 use lib.ListN.{replicate}
 use Rattle.answers.specs.Answers.{good}
+use Rattle.check_answer.specs.CheckAnswer.{checkText}
 use Rattle.answers.specs.declared.Refusal.the-variants.{BufferShort}
 use Rattle.text.specs.Text.{bytes}
 use Rattle.ladder.specs.Study.{report, studyOf, bufferOf}
 use Rattle.ladder.specs.declared.Study.the-variants.{Written, NoReport}
 use Rattle.report_check.specs.Check.{checkOf}
 use Rattle.report_check.specs.declared.Verdict.the-variants.{Pass}
+use Rattle.study_answer.specs.StudyAnswer.{studyText}
 use Rattle.trials.specs.Opened.{opened, accountOf}
 
 abbrev pub feeder : List ℕ
@@ -55,6 +57,23 @@ buffer-kept = refl
 passes : checkOf feeder written ≡ Pass
 unfolding opened
 passes = refl
+
+-- what the programs write: the report, the line of a refusal, and "pass"
+program-report : studyText feeder 65536 ≡ written
+unfolding opened
+program-report = refl
+
+program-refusal : studyText feeder 288 ≡ bytes "refused 40 289\n"
+unfolding opened
+program-refusal = refl
+
+program-pass : checkText feeder written ≡ bytes "pass\n"
+unfolding opened
+program-pass = refl
+
+program-layout : checkText feeder feeder ≡ bytes "refused 50 0\n"
+unfolding opened
+program-layout = refl
 
 -- "Above: difference 51,980, twice that 103,960, allowance 749,044"
 account : accountOf feeder written ≡ good (record { differs = record { re = pos 51980; im = pos 0 }; allowed = 749044 })

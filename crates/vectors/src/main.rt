@@ -1,12 +1,15 @@
 // Tries the test cases of the reading, the study and the check, each kind from the file of its name. It writes the kind, and then a line for each
-// case: its number, and 'good', or 'refused' with the refusal's number and value, or 'differs' where the study's buffer or answer is not the case's.
+// case: its number, and 'good', 'pass', or 'refused' with the refusal's number and value, or 'differs' where the study's buffer or answer is not the case's.
+// For the study and the check these are the bytes that the programs' own calls put into a buffer.
 ghost use Prim.Native.Nat.{_≤_};
 ghost use lib.ListN.{length};
+use answers::Refusal;
 use cases::Case;
 use cases::case_at;
 use cases::count_at;
 use cases::read_cases;
 use cases::text_space;
+use check_answer::put_check_answer;
 use ladder::Study;
 use ladder::study_feeder;
 use libc::STDOUT_FILENO;
@@ -15,7 +18,7 @@ use programs::print_refusal;
 use programs::used;
 use reading::ReadAnswer;
 use reading::read_feeder;
-use report_check::Verdict;
+use study_answer::put_study_answer;
 use text::write::put_bytes;
 
 enum Kind {
@@ -34,7 +37,7 @@ fn try_reading(feeder: &[u8]) -> bool {
     }
 }
 
-// The study with the buffer's first bytes as its buffer.
+// The study with the buffer's first bytes as its buffer, and the call of the study's program in the same way.
 fn study_in(feeder: &[u8], buffer: &mut [u8], room: usize) -> Study {
     if buffer.len() < room {
         return study_feeder(feeder, buffer);
@@ -42,11 +45,18 @@ fn study_in(feeder: &[u8], buffer: &mut [u8], room: usize) -> Study {
     study_feeder(feeder, &mut buffer[0..room])
 }
 
-// What a buffer that was filled with 7 then holds: the report, which is empty where the case is refused, and 7 behind it.
-fn buffer_with(report: &[u8]) -> [u8; 65536] {
+fn answer_in(feeder: &[u8], buffer: &mut [u8], room: usize) -> usize {
+    if buffer.len() < room {
+        return put_study_answer(feeder, buffer);
+    }
+    put_study_answer(feeder, &mut buffer[0..room])
+}
+
+// What a buffer that was filled with 7 holds behind a call that wrote a text at its start.
+fn buffer_with(text: &[u8]) -> [u8; 65536] {
     let mut buffer = [7u8; 65536];
-    if report.len() <= 65536 {
-        put_bytes(&mut buffer, 0, report);
+    if text.len() <= 65536 {
+        put_bytes(&mut buffer, 0, text);
     }
     buffer
 }
@@ -73,6 +83,28 @@ fn tells(answer: Study, report: &[u8]) -> bool {
     length == report.len() && sweeps == count.value
 }
 
+// The line of a refusal as the study's program writes it. Where the case's buffer has no room for it, nothing may be written, and the line is made anew.
+fn try_line(feeder: &[u8], room: usize, x: Refusal) -> bool {
+    let mut buffer = [7u8; 65536];
+    let written = answer_in(feeder, &mut buffer, room);
+    let n = used(written, &buffer);
+    let whole = buffer_with(&buffer[..n]);
+    if !check::same(&buffer, &whole) {
+        return print(b"differs\n");
+    }
+    if n == 0 {
+        return print_refusal(x);
+    }
+    print(&buffer[..n])
+}
+
+// Whether the study's program writes the report, and nothing behind it.
+fn writes(feeder: &[u8], room: usize, report: &[u8]) -> bool {
+    let mut buffer = [7u8; 65536];
+    let written = answer_in(feeder, &mut buffer, room);
+    written == report.len() && check::same(&buffer, &buffer_with(report))
+}
+
 fn try_study(feeder: &[u8], report: &[u8], room: usize) -> bool {
     let mut buffer = [7u8; 65536];
     let answer = study_in(feeder, &mut buffer, room);
@@ -80,17 +112,20 @@ fn try_study(feeder: &[u8], report: &[u8], room: usize) -> bool {
         return print(b"differs\n");
     }
     match answer {
-        Study::Written(_, _) => print(b"good\n"),
-        Study::NoReport(x) => print_refusal(x),
+        Study::Written(_, _) => {
+            if !writes(feeder, room, report) {
+                return print(b"differs\n");
+            }
+            print(b"good\n")
+        }
+        Study::NoReport(x) => try_line(feeder, room, x),
     }
 }
 
 fn try_check(feeder: &[u8], report: &[u8]) -> bool {
-    let verdict = report_check::check(feeder, report);
-    match verdict {
-        Verdict::Pass => print(b"good\n"),
-        Verdict::Fail(x) => print_refusal(x),
-    }
+    let mut line = io::buffer();
+    let n = put_check_answer(feeder, report, &mut line);
+    print(&line[..n])
 }
 
 // The line of one case, whose places lie in the text.

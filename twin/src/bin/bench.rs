@@ -65,7 +65,8 @@ fn main() {
                     let study = time(batch, || words[0] = calls.study(black_box(&feeder), black_box(&mut out)));
                     let check = time(batch, || words[1] = calls.check(black_box(&feeder), black_box(&report)));
                     let empty = time(batch, || words[2] = calls.check(black_box(&feeder), black_box(&[])));
-                    wrong |= words != [report.len() as u64, 0, 50 << 32];
+                    let written = Answer::Report { length: report.len(), sweeps };
+                    wrong |= words != [written.word(), 0, 50 << 32];
                     times[3 * side].push(study);
                     times[3 * side + 1].push(check);
                     times[3 * side + 2].push(empty);

@@ -1,18 +1,18 @@
 //! fuzz [--self] [COUNT] [SEED]: compares the twin with the proved code on generated files.
 //!
 //! Every case is a feeder and a report. The study is run with buffers of many lengths, filled beforehand and with guard
-//! bytes around them, and the answer and every byte are compared; then the check. The first difference ends the run, and
-//! its files are written to the folder named by FUZZ_OUT (or here).
+//! bytes around them, and the answer with its sweeps and every byte are compared; then the check. The first difference
+//! ends the run, and its files are written to the folder named by FUZZ_OUT (or here).
 //!
 //! `--self` compares the twin with itself by the same calls. There TWIN_WRONG=KIND:N spoils the N-th call on the other
-//! side, to show that the fuzzer notices: KIND is `answer`, `byte` (in the report), `behind` (a byte behind it),
-//! `before` (a guard byte), `feeder` (writes into the feeder's bytes) or `check`.
+//! side, to show that the fuzzer notices: KIND is `answer`, `sweeps`, `byte` (in the report), `behind` (a byte behind
+//! it), `before` (a guard byte), `feeder` (writes into the feeder's bytes) or `check`.
 
 use std::collections::BTreeMap;
 use std::sync::atomic::{AtomicU64, Ordering};
 use twin::generate::{any_feeder, any_report, Random};
 use twin::outside::{twin_check, twin_study, Calls, PROVED};
-use twin::{account, Answer, MAX_FILE};
+use twin::{account, parts, Answer, MAX_FILE};
 
 const GUARD: usize = 64;
 
@@ -21,16 +21,17 @@ static WRONG_AT: AtomicU64 = AtomicU64::new(0);
 static WRONG_KIND: AtomicU64 = AtomicU64::new(0);
 static STUDIES: AtomicU64 = AtomicU64::new(0);
 static CHECKS: AtomicU64 = AtomicU64::new(0);
-const KINDS: [&str; 7] = ["", "answer", "byte", "behind", "before", "feeder", "check"];
+const KINDS: [&str; 8] = ["", "answer", "sweeps", "byte", "behind", "before", "feeder", "check"];
 
 unsafe extern "C" fn self_study(feeder: *const u8, feeder_len: usize, out: *mut u8, out_len: usize) -> u64 {
     let word = twin_study(feeder, feeder_len, out, out_len);
     if STUDIES.fetch_add(1, Ordering::Relaxed) + 1 < WRONG_AT.load(Ordering::Relaxed) {
         return word;
     }
-    let length = if word < 1 << 32 { word as usize } else { 0 };
+    let length = if parts(word).number == 0 { parts(word).value as usize } else { 0 };
     match KINDS[WRONG_KIND.load(Ordering::Relaxed) as usize] {
         "answer" => return word ^ 1,
+        "sweeps" => return word ^ 1 << 48,
         "byte" if length > 0 => *out.add(length / 2) ^= 1,
         "behind" if length < out_len => *out.add(length) ^= 1,
         "before" => *out.sub(1) ^= 1,
@@ -74,6 +75,12 @@ impl Guarded {
     }
 }
 
+/// The sweeps that a report tells: the first number of its last line.
+fn sweeps_told(report: &[u8]) -> Option<u32> {
+    let line = report.strip_suffix(b"\n")?.rsplit(|b| *b == b'\n').next()?;
+    std::str::from_utf8(line.split(|b| *b == b',').next()?).ok()?.parse().ok()
+}
+
 /// The number that an answer is counted under: report, pass or the refusal's.
 fn label(answer: Answer) -> String {
     match answer {
@@ -113,8 +120,7 @@ fn compare(far: &Calls, feeder: &[u8], report: &[u8], salt: u8, counts: &mut Cou
         let word = unsafe { (far.study)(own_feeder.as_mut_ptr(), own_feeder.len(), away.pointer(), length) };
         counts.calls += 1;
         if word != answer.word() {
-            let (number, value) = (word >> 32, word & 0xFFFF_FFFF);
-            return Err(format!("study, buffer of {length}: the twin says {answer:?}, the other {number} {value}"));
+            return Err(format!("study, buffer of {length}: the twin says {answer:?}, the other {:?}", parts(word)));
         }
         if matches!(answer, Answer::Refused { .. }) {
             if near.bytes != Guarded::new(length, salt).bytes {
@@ -127,6 +133,11 @@ fn compare(far: &Calls, feeder: &[u8], report: &[u8], salt: u8, counts: &mut Cou
         if let Some(at) = near.bytes.iter().zip(&away.bytes).position(|(a, b)| a != b) {
             let at = at as i64 - GUARD as i64;
             return Err(format!("study, buffer of {length}: {answer:?}, and byte {at} differs"));
+        }
+        if let Answer::Report { length: written, sweeps } = answer {
+            if sweeps_told(&away.middle()[..written]) != Some(sweeps) {
+                return Err(format!("study, buffer of {length}: {answer:?}, and the report tells other sweeps"));
+            }
         }
     }
 
@@ -158,8 +169,7 @@ fn compare_check(
     // SAFETY: as in the study.
     let word = unsafe { (far.check)(feeder.as_mut_ptr(), feeder.len(), report.as_mut_ptr(), report.len()) };
     if word != answer.word() {
-        let (number, value) = (word >> 32, word & 0xFFFF_FFFF);
-        return Err(format!("check: the twin says {answer:?}, the other {number} {value}"));
+        return Err(format!("check: the twin says {answer:?}, the other {:?}", parts(word)));
     }
     // Demand 3, for every report that passes.
     if answer == Answer::Pass && !account::account_of(feeder, report).is_some_and(|account| account.holds()) {

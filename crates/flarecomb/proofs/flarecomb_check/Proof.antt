@@ -3,7 +3,7 @@ use mathlib.Core.Path.{_∙_, _≡_, ap, sym}
 use native.Mathlib.Omega.{arith}
 use borrow.Author.Needs.{needs}
 use Rattle.flarecomb.specs.CheckValues.{check-value}
-use Rattle.flarecomb.specs.WordLaws.{zero-passes}
+use Rattle.flarecomb.specs.WordLaws.{check-word, zero-passes}
 use Rattle.flarecomb.specs.Words.{wordOfCheck}
 use Rattle.report_check.specs.Check.{checkOf}
 use Rattle.report_check.specs.declared.Verdict.the-variants.{Fail, Pass}
@@ -35,7 +35,8 @@ returns c =
     let start = c .before .before .before .before .before .before in
     let verdict = c .before .before .before .check in
     let e : checkOf (start .args .feeder .now) (start .args .report .now) ≡ Pass = sym (verdict .ensures .0) ∙ c .before .enum-told .given .1 in
-    (c .word-of .ensures ∙ sym (ap wordOfCheck e), λ z. verdict .ensures .1 (c .before .enum-told .given .1))
+    let w = c .word-of .ensures ∙ sym (ap wordOfCheck e) in
+    (w, (λ z. verdict .ensures .1 .0 (c .before .enum-told .given .1), check-word _ _ _ w))
 
 returns-2 : tie.Need-returns-2
 returns-2 c =
@@ -44,7 +45,7 @@ returns-2 c =
     let told = c .before .before .verdict .given in
     let e : checkOf (start .args .feeder .now) (start .args .report .now) ≡ Fail (told .0 .0) = sym (verdict .ensures .0) ∙ told .1 in
     let word-is = c .refusal-word .ensures ∙ sym (ap wordOfCheck e) in
-    (word-is, λ z. verdict .ensures .1 (verdict .ensures .0 ∙ zero-passes _ (sym word-is ∙ z)))
+    (word-is, (λ z. verdict .ensures .1 .0 (verdict .ensures .0 ∙ zero-passes _ (sym word-is ∙ z)), check-word _ _ _ word-is))
 
 pub flarecomb-check-spec : {M : Type 1} → statement M
 flarecomb-check-spec =

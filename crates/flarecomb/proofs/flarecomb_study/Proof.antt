@@ -3,7 +3,8 @@ use mathlib.Core.Path.{_∙_, _≡_, ap, sym}
 use native.Mathlib.Omega.{arith}
 use lib.ListN.{length}
 use borrow.Author.Needs.{needs}
-use Rattle.flarecomb.specs.StudyValues.{study-length, study-value}
+use Rattle.flarecomb.specs.StudyValues.{study-length, study-sweeps, study-value}
+use Rattle.flarecomb.specs.WordLaws.{study-word}
 use Rattle.flarecomb.specs.Words.{wordOfStudy}
 use Rattle.ladder.specs.Study.{studyOf}
 use Rattle.ladder.specs.declared.Study.the-variants.{NoReport, Written}
@@ -22,7 +23,7 @@ word-of-requires c κs =
     let study = c .before .before .before .before .before .study-feeder in
     let told = c .before .answer .given in
     let e : studyOf (start .args .feeder .now) (length (start .args .out .now)) ≡ Written (told .0 .0) (told .0 .1 .0) = sym (study .ensures .0) ∙ told .1 in
-    (omega arith, omega (arith, study-length _ _ _ _ e))
+    (omega (arith, study-sweeps _ _ _ _ e), (omega arith, omega (arith, study-length _ _ _ _ e)))
 
 enum-known-answer-2 : tie.Need-enum-known-answer-2
 enum-known-answer-2 c = search needs
@@ -44,7 +45,8 @@ returns c =
     let study = c .before .before .before .before .before .before .study-feeder in
     let told = c .before .before .answer .given in
     let e : studyOf (start .args .feeder .now) (length (start .args .out .now)) ≡ Written (told .0 .0) (told .0 .1 .0) = sym (study .ensures .0) ∙ told .1 in
-    (c .word-of .ensures ∙ sym (ap wordOfStudy e), study .ensures .1 .0)
+    let w = c .word-of .ensures ∙ sym (ap wordOfStudy e) in
+    (w, (study .ensures .1 .0, study-word _ _ _ w))
 
 same-length-2 : tie.Need-same-length-2
 same-length-2 c = search needs
@@ -55,7 +57,8 @@ returns-2 c =
     let study = c .before .before .before .before .before .before .study-feeder in
     let told = c .before .before .answer2 .given in
     let e : studyOf (start .args .feeder .now) (length (start .args .out .now)) ≡ NoReport (told .0 .0) = sym (study .ensures .0) ∙ told .1 in
-    (c .refusal-word .ensures ∙ sym (ap wordOfStudy e), study .ensures .1 .0)
+    let w = c .refusal-word .ensures ∙ sym (ap wordOfStudy e) in
+    (w, (study .ensures .1 .0, study-word _ _ _ w))
 
 pub flarecomb-study-spec : {M : Type 1} → statement M
 flarecomb-study-spec =

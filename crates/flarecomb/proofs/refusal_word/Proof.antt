@@ -14,10 +14,10 @@ value-of-requires : tie.Need-value-of-requires
 value-of-requires c κs = search needs
 
 word-of-requires : tie.Need-word-of-requires
-word-of-requires c κs = let n = numbers-in (c .before .before .args .x) in (omega arith, omega arith)
+word-of-requires c κs = let n = numbers-in (c .before .before .args .x) in (omega arith, (omega arith, omega arith))
 
 returns : tie.Need-returns
-returns c = c .word-of .ensures ∙ ap₂ word (c .before .before .number-of .ensures) (c .before .value-of .ensures)
+returns c = c .word-of .ensures ∙ ap₂ (word 0) (c .before .before .number-of .ensures) (c .before .value-of .ensures)
 
 pub refusal-word-spec : {M : Type 1} → statement M
 refusal-word-spec = tie.close (tie.spec number-of-requires value-of-requires word-of-requires returns)

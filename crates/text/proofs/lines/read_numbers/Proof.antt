@@ -12,12 +12,12 @@ use Rattle.answers.specs.declared.Refusal.{Refusal}
 use Rattle.integers.specs.Machine.{read}
 use Rattle.text.specs.Lines.{numbers}
 use Rattle.text.specs.TextLaws.{take-next}
-use Rattle.text.specs.LineLaws.{joined, onNumber, numbers-start, numbers-none, numbers-more}
+use Rattle.text.specs.LineLaws.{inFront, onNumber, numbers-start, numbers-none, numbers-more}
 use Rattle.text.proofs.lines.read_numbers.Statement.{statement}
 use Rattle.text.proofs.lines.read_numbers.Tie as tie
 
 abbrev Inv-loop : tie.InvT-loop
-Inv-loop s at values₀ p₀ k₀ values p k = (k ≤ length values₀) × (length values ≡ length values₀) × ((r : Refusal) → numbers r (length values₀) s at ≡ joined (take k values) (numbers r (length values₀ - k) s p)) × (at ≤ p) × (0 < k → (at < p) × (p ≤ length s))
+Inv-loop s at values₀ p₀ k₀ values p k = (k ≤ length values₀) × (length values ≡ length values₀) × ((r : Refusal) → numbers r (length values₀) s at ≡ inFront (take k values) (numbers r (length values₀ - k) s p)) × (at ≤ p) × (0 < k → (at < p) × (p ≤ length s))
 
 abbrev μ-loop : tie.MeasureT-loop
 μ-loop s at values₀ p₀ k₀ values p k = length values₀ - k
@@ -95,7 +95,7 @@ loop-again c =
     let p = c .before .before .before .read-number .ensures .1 _ _ (g .1) in (
       omega arith,
       simp length-set (i .1),
-      (λ r. turn (c .before .before .before) r ∙ simp (g .1) (ap (λ (l : List ℤ). joined l (numbers r (length (a .values .now) - (o .k + 1)) (a .s .now) (g .0 .1 .0))) (grown c))),
+      (λ r. turn (c .before .before .before) r ∙ simp (g .1) (ap (λ (l : List ℤ). inFront l (numbers r (length (a .values .now) - (o .k + 1)) (a .s .now) (g .0 .1 .0))) (grown c))),
       omega (arith, p, i .3),
       (λ h. omega (arith, p, i .3)),
     )

@@ -1,0 +1,4 @@
+-- Definitions
+pub mod CheckAnswer
+-- Laws
+pub mod CheckAnswerLaws

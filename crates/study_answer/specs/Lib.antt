@@ -1,0 +1,4 @@
+-- Definitions
+pub mod StudyAnswer
+-- Laws
+pub mod StudyAnswerLaws
