@@ -1,0 +1,1 @@
+"""The command `flarecomb`: runs the proved programs and says in plain words what they answered."""

@@ -1,0 +1,246 @@
+"""Document 01's equations in whole numbers, to say in which row a refusal from 30 to 34 or from 53 to 55 arises.
+
+The proved programs give the answer. What is worked out here is only told where it comes to the same answer. Complex numbers are pairs
+(re, im) of whole numbers, and what a node or a branch has on its phases is a list of three of them.
+"""
+import collections
+import math
+
+from .format import CURRENT_LIMIT, CURRENTS, GRAINS_IN_A_WATT, NODES, PHASES, TOTALS, VOLTAGE_LIMIT, header
+
+ZERO = (0, 0)
+MICRO_OHM_MILLIAMPERES_IN_A_CENTIVOLT = 10000000
+STEPS = 160  # a tap's step is 1/160
+
+# What is refused, with the row it arises in and a value: (re, im) of a voltage or a current.
+Trouble = collections.namedtuple("Trouble", "number sweep row phase value end", defaults=("",))
+# A settled study, or one that ran out of sweeps: moved[k] is the greatest movement in sweep k + 1, with its node and phase.
+Studied = collections.namedtuple("Studied", "voltages currents sweeps moved trouble")
+Movement = collections.namedtuple("Movement", "size node phase")
+
+
+def rounded(numerator, denominator):
+    """The nearest whole number, a tie going away from zero; the denominator is above 0."""
+    size = (2 * abs(numerator) + denominator) // (2 * denominator)
+    return -size if numerator < 0 else size
+
+
+def rounded_pair(pair, denominator):
+    return (rounded(pair[0], denominator), rounded(pair[1], denominator))
+
+
+def plus(one, other):
+    return (one[0] + other[0], one[1] + other[1])
+
+
+def minus(one, other):
+    return (one[0] - other[0], one[1] - other[1])
+
+
+def times(one, other):
+    return (one[0] * other[0] - one[1] * other[1], one[0] * other[1] + one[1] * other[0])
+
+
+def scaled(factor, pair):
+    return (factor * pair[0], factor * pair[1])
+
+
+def conjugate(pair):
+    return (pair[0], -pair[1])
+
+
+def total(pairs):
+    sum_of_all = ZERO
+    for pair in pairs:
+        sum_of_all = plus(sum_of_all, pair)
+    return sum_of_all
+
+
+def beyond(pair, limit):
+    return abs(pair[0]) > limit or abs(pair[1]) > limit
+
+
+def load_current(load, voltage):
+    """The load's current; its voltage is not 0 where its kind is P or I."""
+    square = voltage[0] ** 2 + voltage[1] ** 2
+    divisor = {"P": square, "I": math.isqrt(square) * load.vn, "Z": load.vn**2}[load.kind]
+    return rounded_pair(scaled(GRAINS_IN_A_WATT, times((load.p, -load.q), voltage)), divisor)
+
+
+def _has(branch, place):
+    return PHASES[place] in branch.phases
+
+
+def drop(branch, current):
+    """D of the branch, from its current at the to-node."""
+    numbers = branch.parameters
+    if branch.kind == "R":
+        return [ZERO] * 3
+    if branch.kind == "L":
+        matrix = [[0, 2, 4], [2, 6, 8], [4, 8, 10]]  # the place of r of each pair of phases among p1 to p12
+        sums = [total(times(numbers[at : at + 2], current[column]) for column, at in enumerate(row)) for row in matrix]
+    else:
+        sums = [times(numbers[2 + 2 * place : 4 + 2 * place], current[place]) for place in range(3)]
+    return [rounded_pair(pair, MICRO_OHM_MILLIAMPERES_IN_A_CENTIVOLT) for pair in sums]
+
+
+def voltage_below(branch, above, current):
+    """The voltage at the to-node from the one at the from-node."""
+    numbers = branch.parameters
+    if branch.kind == "R":
+        below = [rounded_pair(scaled(STEPS, above[place]), STEPS - numbers[place]) for place in range(3)]
+    elif branch.kind == "L":
+        below = above
+    else:
+        if branch.kind == "D":
+            above = [minus(above[place], above[place - 1]) for place in range(3)]
+        below = [rounded_pair(scaled(numbers[1], pair), numbers[0]) for pair in above]
+    drops = drop(branch, current)
+    return [minus(below[place], drops[place]) if _has(branch, place) else ZERO for place in range(3)]
+
+
+def current_above(branch, current):
+    """J: what the branch takes at its from-node."""
+    numbers = branch.parameters
+    if branch.kind == "L":
+        return current
+    if branch.kind == "R":
+        return [rounded_pair(scaled(STEPS, current[place]), STEPS - numbers[place]) for place in range(3)]
+    if branch.kind == "D":
+        current = [minus(current[place], current[(place + 1) % 3]) for place in range(3)]
+    return [rounded_pair(scaled(numbers[1], pair), numbers[0]) for pair in current]
+
+
+def loss(branch, current):
+    return total(times(one, conjugate(other)) for one, other in zip(drop(branch, current), current))
+
+
+def from_source_down(feeder):
+    """The branches in an order in which each comes behind the one that feeds it."""
+    leaving = collections.defaultdict(list)
+    for branch in feeder.branches:
+        leaving[branch.from_node].append(branch)
+    ordered = []
+    nodes = [feeder.source.name]
+    for node in nodes:
+        for branch in leaving[node]:
+            ordered.append(branch)
+            nodes.append(branch.to_node)
+    return ordered
+
+
+def base_voltages(feeder):
+    """|V| in cV on each phase if no current flowed and every tap stood at 0: the source's, stepped by transformers."""
+    phasors = {feeder.source.name: [complex(*pair) for pair in feeder.source.voltage]}
+    for branch in from_source_down(feeder):
+        above = phasors[branch.from_node]
+        if branch.kind == "D":
+            above = [above[place] - above[place - 1] for place in range(3)]
+        if branch.kind in "YD":
+            above = [value * branch.parameters[1] / branch.parameters[0] for value in above]
+        phasors[branch.to_node] = above
+    return {node: [abs(value) for value in values] for node, values in phasors.items()}
+
+
+def currents_at(feeder, voltages, sweep):
+    """Load currents, then I of each branch by its to-node, at these voltages; the current taken at the source stands under its name.
+
+    Gives (load currents, currents, Trouble or None), the refusals 30 to 32 in their order.
+    """
+    places = [(load, PHASES.index(load.phase)) for load in feeder.loads]
+    for load, place in places:
+        if load.kind != "Z" and voltages[load.node][place] == ZERO:
+            return None, None, Trouble(30, sweep, load, load.phase, ZERO)
+    taken = [load_current(load, voltages[load.node][place]) for load, place in places]
+    for (load, place), current in zip(places, taken):
+        if beyond(current, CURRENT_LIMIT):
+            return None, None, Trouble(31, sweep, load, load.phase, current)
+    currents = {node: [ZERO] * 3 for node in voltages}
+    for (load, place), current in zip(places, taken):
+        currents[load.node][place] = plus(currents[load.node][place], current)
+    trouble = None
+    for branch in reversed(from_source_down(feeder)):
+        current = currents[branch.to_node]
+        above = current_above(branch, current)
+        for values, end in ((current, branch.to_node), (above, branch.from_node)):
+            for place, value in enumerate(values):
+                if beyond(value, CURRENT_LIMIT) and trouble is None:
+                    trouble = Trouble(32, sweep, branch, PHASES[place], value, end)
+        currents[branch.from_node] = [plus(one, other) for one, other in zip(currents[branch.from_node], above)]
+    return taken, currents, trouble
+
+
+def voltages_down(feeder, currents, sweep):
+    """The voltages from the source downward; gives (voltages, Trouble or None) with refusal 33."""
+    voltages = {feeder.source.name: list(feeder.source.voltage)}
+    trouble = None
+    for branch in from_source_down(feeder):
+        voltages[branch.to_node] = voltage_below(branch, voltages[branch.from_node], currents[branch.to_node])
+        for place, value in enumerate(voltages[branch.to_node]):
+            if beyond(value, VOLTAGE_LIMIT) and trouble is None:
+                trouble = Trouble(33, sweep, branch, PHASES[place], value)
+    return voltages, trouble
+
+
+def greatest_movement(feeder, before, after):
+    """The greatest movement of a voltage, re or im, with its node and phase."""
+    greatest = Movement(0, feeder.source.name, "A")
+    for node in after:
+        for place, phase in enumerate(PHASES):
+            moved = minus(after[node][place], before[node][place])
+            size = max(abs(moved[0]), abs(moved[1]))
+            if size > greatest.size:
+                greatest = Movement(size, node, phase)
+    return greatest
+
+
+def study(feeder, tol=None, most_sweeps=None):
+    """The sweeps of the study, on a feeder that is free of 9 to 24; tol and the most sweeps are the feeder's where none are given."""
+    tol = feeder.source.tol if tol is None else tol
+    most_sweeps = feeder.source.sweeps if most_sweeps is None else most_sweeps
+    nothing = {branch.to_node: [ZERO] * 3 for branch in feeder.branches}
+    voltages, trouble = voltages_down(feeder, nothing, 0)
+    moved = []
+    for sweep in range(1, most_sweeps + 1):
+        if trouble is None:
+            _, currents, trouble = currents_at(feeder, voltages, sweep)
+        if trouble is None:
+            after, trouble = voltages_down(feeder, currents, sweep)
+        if trouble is not None:
+            return Studied(voltages, None, sweep, moved, trouble)
+        moved.append(greatest_movement(feeder, voltages, after))
+        if moved[-1].size <= tol:
+            return Studied(voltages, currents, sweep, moved, None)
+        voltages = after
+    return Studied(voltages, currents, most_sweeps, moved, Trouble(34, most_sweeps, None, moved[-1].phase, ZERO))
+
+
+def powers(feeder, voltages, load_currents, currents):
+    """(losses by to-node, source, drawn, lost): the powers of a report, in grains."""
+    losses = {branch.to_node: loss(branch, currents[branch.to_node]) for branch in feeder.branches}
+    source = total(times(one, conjugate(other)) for one, other in zip(feeder.source.voltage, currents[feeder.source.name]))
+    drawn = total(
+        times(voltages[load.node][PHASES.index(load.phase)], conjugate(current)) for load, current in zip(feeder.loads, load_currents)
+    )
+    return losses, source, drawn, total(losses.values())
+
+
+def report_lines(feeder, studied):
+    """The lines of the report of a settled study, without LF."""
+    load_currents, currents, _ = currents_at(feeder, studied.voltages, studied.sweeps)
+    losses, source, drawn, lost = powers(feeder, studied.voltages, load_currents, currents)
+
+    def row(*parts):
+        return ",".join(str(part) for part in parts)
+
+    def six(three):
+        return [part for pair in three for part in pair]
+
+    nodes = [feeder.source.name] + [branch.to_node for branch in feeder.branches]
+    return (
+        [header(NODES)]
+        + [row(node, *six(studied.voltages[node])) for node in nodes]
+        + ["", header(CURRENTS)]
+        + [row(b.from_node, b.to_node, *six(currents[b.to_node]), *losses[b.to_node]) for b in feeder.branches]
+        + ["", header(TOTALS), row(studied.sweeps, *source, *drawn, *lost)]
+    )

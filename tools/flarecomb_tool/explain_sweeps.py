@@ -1,0 +1,200 @@
+"""Where currents or voltages leave their limits, or do not settle: refusals 30 to 34, also 30 to 32 of the check."""
+from . import equations
+from .explain_units import source_hint, vn_hint
+from .format import CURRENT_LIMIT, PHASES, VOLTAGE_LIMIT
+from .power import nearest_root, square
+from .wording import amperes, counted, listed, ohms, volts
+
+MOST_SWEEPS = 100
+MOST_TOL = 1000
+
+
+def _size(pair):
+    """The size of a voltage, at the nearest whole number."""
+    return nearest_root(square(pair))
+
+
+def _source_said(feeder):
+    """The source's voltages in V, with a word on the unit where they do not fit the rest."""
+    sizes = [_size(pair) for pair in feeder.source.voltage]
+    said = f"The source (line {feeder.source.line}) has {listed(f'{volts(size)} on {phase}' for phase, size in zip(PHASES, sizes))}."
+    return " ".join([said, *source_hint(feeder)])
+
+
+def _units_said(feeder):
+    """Sentences on voltages that are probably in another unit, with the source's where it is one of them."""
+    return vn_hint(feeder) + ([_source_said(feeder)] if source_hint(feeder) else [])
+
+
+def _load_said(load):
+    return f"The load in line {load.line} (node {load.node}, phase {load.phase}, kind {load.kind}, p {load.p} W, q {load.q} var)"
+
+
+def _ratio_said(branch):
+    n, m = branch.parameters[:2]
+    return f"Line {branch.line} is a transformer with N {n} and M {m}: it makes the voltage M/N times as high."
+
+
+def _changes_said(branch):
+    """What a regulator or a transformer does to the voltage: 'line 5 (N 240, M 7200)'."""
+    numbers = branch.parameters
+    what = f"taps {listed(numbers[:3])}" if branch.kind == "R" else f"N {numbers[0]}, M {numbers[1]}"
+    return f"line {branch.line} ({what})"
+
+
+def _above(feeder, node):
+    """The branches from a node up to the source."""
+    feeding = {branch.to_node: branch for branch in feeder.branches}
+    way = []
+    while node in feeding and len(way) <= len(feeding):
+        way.append(feeding[node])
+        node = feeding[node].from_node
+    return way
+
+
+def _largest_impedance(feeder, node, phase):
+    """The row on the way from the source that has the largest impedance on a phase, as a sentence; none where all are 0."""
+    place = PHASES.index(phase)
+    first = {"L": (0, 6, 10), "Y": (2, 4, 6), "D": (2, 4, 6)}  # the place of r of each phase's own impedance among p1 to p12
+    sizes = []
+    for branch in _above(feeder, node):
+        if branch.kind in first:
+            at = first[branch.kind][place]
+            sizes.append((_size(branch.parameters[at : at + 2]), branch.parameters[at : at + 2], branch))
+    if not sizes or max(sizes, key=lambda entry: entry[0])[0] == 0:
+        return []
+    _, (r, x), branch = max(sizes, key=lambda entry: entry[0])
+    return [f"The largest impedance on its way is that of line {branch.line} ({branch.from_node},{branch.to_node}): "
+            f"r {ohms(r)} and x {ohms(x)} on phase {phase}."]
+
+
+def _zero_voltage(feeder, trouble, in_check):
+    load = trouble.row
+    sentences = [f"{_load_said(load)} has voltage 0: a load of kind P or I has no current there."]
+    way = _above(feeder, load.node)
+    place = PHASES.index(load.phase)
+    if in_check:
+        return sentences + [f"The report has 0 for phase {load.phase} of node {load.node}."]
+    deltas = [branch for branch in way if branch.kind == "D"]
+    if not deltas and feeder.source.voltage[place] == equations.ZERO:
+        return sentences + [f"The source (line {feeder.source.line}) has 0 on phase {load.phase}."]
+    if deltas:
+        sentences.append(f"Line {deltas[-1].line} is a delta transformer: it gives 0 where two of the voltages above it are equal.")
+        return sentences + [_source_said(feeder)]
+    ratios = [branch for branch in way if branch.kind == "Y"]
+    if ratios:
+        sentences.append(_ratio_said(ratios[-1]))
+    return sentences + [_source_said(feeder)]
+
+
+def _load_current(feeder, trouble, voltage):
+    load = trouble.row
+    sentences = [
+        f"{_load_said(load)} takes {listed(amperes(part) for part in trouble.value)} (re and im): the limit is {amperes(CURRENT_LIMIT)} for each.",
+        f"Its voltage is {volts(_size(voltage))}"
+        + (f", its rated voltage vn {volts(load.vn)}." if load.kind != "P" else "."),
+    ]
+    units = vn_hint(feeder, load) or vn_hint(feeder)
+    sentences += units
+    if trouble.sweep > 1 and not units and not source_hint(feeder):
+        sentences.append("Its voltage fell in the sweeps before: more constant-power load than the branches above can carry, "
+                         "or impedances that are too large.")
+        sentences += _largest_impedance(feeder, load.node, load.phase)
+    return sentences + [_source_said(feeder)]
+
+
+def _branch_current(feeder, trouble):
+    branch = trouble.row
+    below = {branch.to_node}
+    for other in equations.from_source_down(feeder):
+        if other.from_node in below:
+            below.add(other.to_node)
+    loads = [load for load in feeder.loads if load.node in below]
+    sentences = [
+        f"The branch in line {branch.line} ({branch.from_node},{branch.to_node}) has {listed(amperes(part) for part in trouble.value)} (re and im) "
+        f"on phase {trouble.phase} at {trouble.end}: the limit is {amperes(CURRENT_LIMIT)} for each.",
+        f"Behind it {'stands' if len(loads) == 1 else 'stand'} {counted(len(loads), 'load row')} "
+        f"with {sum(load.p for load in loads)} W and {sum(load.q for load in loads)} var in all.",
+    ]
+    if branch.kind in "YD" and trouble.end == branch.from_node:
+        sentences.append(_ratio_said(branch))
+    return sentences + vn_hint(feeder) + [_source_said(feeder)]
+
+
+def _voltage(feeder, trouble):
+    branch = trouble.row
+    sentences = [
+        f"Node {branch.to_node} (line {branch.line}) comes to {listed(volts(part) for part in trouble.value)} (re and im) on phase {trouble.phase}: "
+        f"the limit is {volts(VOLTAGE_LIMIT)} for each."
+    ]
+    if trouble.sweep == 0:
+        changing = [other for other in _above(feeder, branch.to_node) if other.kind != "L"]
+        if changing:
+            sentences.append(f"No load counts yet: look at the source and at {listed(_changes_said(other) for other in reversed(changing))}.")
+        return sentences + [_source_said(feeder)]
+    units = _units_said(feeder)
+    if units:
+        return sentences + units
+    return sentences + ["The currents make a larger drop than the branches can have: too much load, impedances that are too large, "
+                        "or a Z load with less impedance than the branches above it."] + _largest_impedance(feeder, branch.to_node, trouble.phase)
+
+
+def _not_settled(feeder, studied):
+    last = studied.moved[-1]
+    source = feeder.source
+    sentences = [
+        f"In sweep {studied.sweeps}, the last that is allowed, phase {last.phase} of node {last.node} still moved by {last.size} cV; tol is {source.tol}."
+    ]
+    units = _units_said(feeder)
+    if units:
+        # More sweeps or a larger tol would only make a report of the wrong voltages.
+        return sentences + units
+    if source.sweeps < MOST_SWEEPS:
+        longer = equations.study(feeder, most_sweeps=MOST_SWEEPS)
+        if longer.trouble is None:
+            return sentences + [f"With more sweeps it settles: it takes {longer.sweeps}."]
+        if longer.trouble.number == 34:
+            sentences.append(f"It does not settle in {MOST_SWEEPS} sweeps, the most that may be made.")
+        else:
+            sentences.append(f"More sweeps do not help: sweep {longer.trouble.sweep} would be refused with {longer.trouble.number}.")
+        moved = longer.moved
+    else:
+        moved = studied.moved
+    sizes = [movement.size for movement in moved]
+    least = min(sizes)
+    if least <= MOST_TOL:
+        sweep = sizes.index(least) + 1
+        limit = "" if sweep <= source.sweeps else f" and sweeps {sweep}"
+        return sentences + [f"With tol {least}{limit} it ends in sweep {sweep}."]
+    return sentences + [
+        f"No tol up to {MOST_TOL} settles it: a load is near or beyond the most that the branches above it can carry."
+    ] + _largest_impedance(feeder, last.node, last.phase)
+
+
+def study_fault(feeder, number, value):
+    """Sentences for refusals 30 to 34 of the study; [] where the working here comes to another answer."""
+    studied = equations.study(feeder)
+    trouble = studied.trouble
+    if trouble is None or (trouble.number, trouble.sweep) != (number, value):
+        return []
+    if number == 30:
+        return _zero_voltage(feeder, trouble, False)
+    if number == 31:
+        return _load_current(feeder, trouble, studied.voltages[trouble.row.node][PHASES.index(trouble.phase)])
+    if number == 32:
+        return _branch_current(feeder, trouble)
+    if number == 33:
+        return _voltage(feeder, trouble)
+    return _not_settled(feeder, studied)
+
+
+def check_fault(feeder, voltages, number):
+    """Sentences for refusals 30 to 32 of the check, at the report's voltages; [] where the working here comes to another answer."""
+    trouble = equations.currents_at(feeder, voltages, 0)[2]
+    if trouble is None or trouble.number != number:
+        return []
+    if number == 30:
+        return _zero_voltage(feeder, trouble, True)
+    if number == 31:
+        return _load_current(feeder, trouble, voltages[trouble.row.node][PHASES.index(trouble.phase)])[:2]
+    return _branch_current(feeder, trouble)[:2]

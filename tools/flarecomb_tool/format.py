@@ -1,0 +1,323 @@
+"""The feeder file and the report as document 01 lays them out: columns, units, limits, and a reader of each file.
+
+The proved programs decide what a file is worth. What stands here serves to speak about a file: to name a column, its unit and its limit,
+and to have the rows of a file that is well laid out.
+"""
+import collections
+import re
+
+LARGEST_FILE = 65536
+MOST_BRANCHES = 200
+MOST_LOADS = 300
+LONGEST_NAME = 8
+MOST_DIGITS = 18
+VOLTAGE_LIMIT = 2000000
+CURRENT_LIMIT = 2000000
+IMPEDANCE_LIMIT = 100000000
+POWER_LIMIT = 3000000
+GRAINS_IN_A_WATT = 100000
+
+PHASES = ("A", "B", "C")
+BRANCH_PHASES = ("A", "B", "C", "AB", "AC", "BC", "ABC")
+BRANCH_KINDS = {
+    "L": "line",
+    "R": "regulator",
+    "Y": "transformer, grounded wye to grounded wye",
+    "D": "transformer, delta to grounded wye",
+}
+LOAD_KINDS = {"P": "constant power", "I": "constant current", "Z": "constant impedance"}
+
+NUMBER = re.compile(rb"0|-?[1-9][0-9]{0,%d}" % (MOST_DIGITS - 1))
+NAME = re.compile(rb"[A-Z0-9]{1,%d}" % LONGEST_NAME)
+
+# form is "name", "number" or the tuple of the words that may stand in the column. least and most are the limits of refusal 11 (of 50 in
+# a report), None where there are none. phases are those that the column belongs to: where one of them is absent, 0 is due.
+Column = collections.namedtuple("Column", "name form meaning unit least most phases", defaults=("", None, None, ""))
+
+# fewest and most rows are those of the layout (refusal 10): a row past limit_rows is refused with 11 instead.
+Table = collections.namedtuple("Table", "name columns fewest_rows most_rows limit_rows")
+
+
+def header(table):
+    """The line of names of a table, without its LF."""
+    return ",".join(column.name for column in table.columns)
+
+
+def _pair(name, meaning, unit, limit, phases=""):
+    """The two columns of a value with a real and an imaginary part."""
+    least = None if limit is None else -limit
+    return (
+        Column(name + "_re", "number", "real part of the " + meaning, unit, least, limit, phases),
+        Column(name + "_im", "number", "imaginary part of the " + meaning, unit, least, limit, phases),
+    )
+
+
+def _three_pairs(letter, meaning, unit, limit):
+    columns = ()
+    for phase in PHASES:
+        columns += _pair(letter + phase.lower(), f"{meaning} of {phase}", unit, limit, phase)
+    return columns
+
+
+SOURCE = Table(
+    "source",
+    (Column("source", "name", "the source node"),)
+    + _three_pairs("v", "source voltage", "cV", VOLTAGE_LIMIT)
+    + (
+        Column("tol", "number", "the study stops when no voltage moves by more than this", "cV", 0, 1000),
+        Column("sweeps", "number", "the most sweeps that may be made", "", 1, 100),
+    ),
+    1, 1, 1,
+)
+
+BRANCHES = Table(
+    "branches",
+    (
+        Column("from", "name", "the node on the source's side"),
+        Column("to", "name", "the node that the branch feeds"),
+        Column("phases", BRANCH_PHASES, "the phases of the branch"),
+        Column("kind", tuple(BRANCH_KINDS), "line, regulator or transformer"),
+    )
+    + tuple(Column(f"p{place}", "number", "a value of the branch, by its kind") for place in range(1, 13)),
+    0, None, MOST_BRANCHES,
+)
+FIRST_PARAMETER = 4  # p1's place among the branch columns, counted from 0
+
+LOADS = Table(
+    "loads",
+    (
+        Column("node", "name", "the node where the load stands"),
+        Column("phase", PHASES, "the phase of the load"),
+        Column("kind", tuple(LOAD_KINDS), "constant power, current or impedance"),
+        Column("vn", "number", "rated voltage to ground", "cV", 1, VOLTAGE_LIMIT),
+        Column("p", "number", "rated power", "W", -POWER_LIMIT, POWER_LIMIT),
+        Column("q", "number", "rated reactive power", "var", -POWER_LIMIT, POWER_LIMIT),
+    ),
+    0, None, MOST_LOADS,
+)
+
+NODES = Table(
+    "voltages",
+    (Column("node", "name", "the node"),) + _three_pairs("v", "voltage", "cV", VOLTAGE_LIMIT),
+    0, None, None,
+)
+
+CURRENTS = Table(
+    "currents",
+    (Column("from", "name", "the node on the source's side"), Column("to", "name", "the node that the branch feeds"))
+    + _three_pairs("i", "current", "mA", CURRENT_LIMIT)
+    + (
+        Column("loss_p", "number", "real power that the branch loses", "grains"),
+        Column("loss_q", "number", "reactive power that the branch loses", "grains"),
+    ),
+    0, None, None,
+)
+
+TOTALS = Table(
+    "totals",
+    (
+        Column("sweeps", "number", "the number of sweeps made", "", 1, 100),
+        Column("source_p", "number", "real power that the source gives", "grains"),
+        Column("source_q", "number", "reactive power that the source gives", "grains"),
+        Column("drawn_p", "number", "real power that the loads draw", "grains"),
+        Column("drawn_q", "number", "reactive power that the loads draw", "grains"),
+        Column("lost_p", "number", "real power that the branches lose", "grains"),
+        Column("lost_q", "number", "reactive power that the branches lose", "grains"),
+    ),
+    1, 1, None,
+)
+
+FEEDER_TABLES = (SOURCE, BRANCHES, LOADS)
+REPORT_TABLES = (NODES, CURRENTS, TOTALS)
+
+
+def _impedances(first, pairs):
+    """Columns r,x for each of the pairs of phases, from p<first> on."""
+    columns = []
+    for phases in pairs:
+        # 'aa' is how document 01 writes the place of A in the phase matrix; a transformer has one impedance for each phase.
+        place = phases.lower() if len(phases) == 2 else phases
+        for letter in "rx":
+            columns.append(Column(f"p{first + len(columns)}", "number", f"{letter} of {place}", "µΩ", -IMPEDANCE_LIMIT, IMPEDANCE_LIMIT,
+                                  "".join(sorted(set(phases)))))
+    return tuple(columns)
+
+
+def _unused(first):
+    """The columns from p<first> on that have no meaning: 0 is due, and there is no other limit."""
+    return tuple(Column(f"p{place}", "number", "not used") for place in range(first, 13))
+
+
+_TRANSFORMER = (
+    (Column("p1", "number", "N of the turns ratio N/M", "", 1, 1000000), Column("p2", "number", "M of the turns ratio N/M", "", 1, 1000000))
+    + _impedances(3, ("A", "B", "C"))
+    + _unused(9)
+)
+
+# What p1 to p12 are, by the branch's kind.
+PARAMETERS = {
+    "L": _impedances(1, ("AA", "AB", "AC", "BB", "BC", "CC")),
+    "R": tuple(Column(f"p{place}", "number", f"tap of {phase}", "", -16, 16, phase) for place, phase in enumerate(PHASES, 1)) + _unused(4),
+    "Y": _TRANSFORMER,
+    "D": _TRANSFORMER,
+}
+
+
+def is_unused(column):
+    """Whether a parameter can only be 0 in its kind of row."""
+    return column.meaning == "not used"
+
+
+def zero_is_due(column, phases):
+    """Whether a parameter of a branch with these phases must be 0 (refusal 24)."""
+    return is_unused(column) or any(phase not in phases for phase in column.phases)
+
+
+def outside_limit(column, value):
+    return column.least is not None and not column.least <= value <= column.most
+
+
+# A line of a file: its number from 1, its bytes without LF, and whether an LF ends it.
+Line = collections.namedtuple("Line", "number content ended")
+
+
+def split_lines(data):
+    """All lines of any bytes, also of a file that is not well laid out; what follows the last LF is a line only if it has a byte."""
+    parts = data.split(b"\n")
+    lines = [Line(number, content, True) for number, content in enumerate(parts[:-1], 1)]
+    if parts[-1]:
+        lines.append(Line(len(parts), parts[-1], False))
+    return lines
+
+
+def read_field(column, field):
+    """The value of a field given as bytes: a number or a word; None where it does not fit its column."""
+    if column.form == "number":
+        return int(field) if NUMBER.fullmatch(field) else None
+    if column.form == "name":
+        return field.decode("ascii") if NAME.fullmatch(field) else None
+    word = field.decode("latin-1")
+    return word if word in column.form else None
+
+
+def read_row(table, content):
+    """The values of a row given as bytes, or None where it does not fit the table."""
+    fields = content.split(b",")
+    if len(fields) != len(table.columns):
+        return None
+    values = tuple(read_field(column, field) for column, field in zip(table.columns, fields))
+    return None if None in values else values
+
+
+class Reading:
+    """A file read line by line against its tables, up to the first line that cannot stand there.
+
+    rows[k] has (line number, values) for each row of table k. stopped is the number of the first line that does not fit, or of the line
+    where the file ends early, and None where the file is well laid out. At the end of the reading table_index, names_read and the rows
+    tell what was due there: see `due`.
+    """
+
+    def __init__(self, data, tables):
+        self.tables = tables
+        self.lines = split_lines(data)
+        self.rows = [[] for _ in tables]
+        self.table_index = 0
+        self.names_read = False
+        self.stopped = None
+        for line in self.lines:
+            if not (line.ended and self._take(line)):
+                self.stopped = line.number
+                return
+        if "end" not in self.due():
+            self.stopped = len(self.lines) + 1
+
+    @property
+    def table(self):
+        return self.tables[self.table_index]
+
+    def due(self):
+        """What may stand at the place reached: a set of 'names', 'row', 'empty line', 'end'."""
+        if not self.names_read:
+            return {"names"}
+        count = len(self.rows[self.table_index])
+        may = set()
+        if self.table.most_rows is None or count < self.table.most_rows:
+            may.add("row")
+        if count >= self.table.fewest_rows:
+            may.add("end" if self.table_index == len(self.tables) - 1 else "empty line")
+        return may
+
+    def _take(self, line):
+        may = self.due()
+        if "names" in may:
+            self.names_read = line.content == header(self.table).encode()
+            return self.names_read
+        if line.content == b"":
+            if "empty line" not in may:
+                return False
+            self.table_index += 1
+            self.names_read = False
+            return True
+        values = read_row(self.table, line.content) if "row" in may else None
+        if values is None:
+            return False
+        self.rows[self.table_index].append((line.number, values))
+        return True
+
+
+class NotLaidOut(ValueError):
+    """The file is too long (number 9), or not laid out as a feeder (10) or as a report (50); line says where."""
+
+    def __init__(self, number, line):
+        super().__init__(f"not laid out: {number} at line {line}")
+        self.number = number
+        self.line = line
+
+
+# Rows of a feeder; line is the row's line in the file. voltage is ((re, im) of A, of B, of C); parameters are p1 to p12.
+Source = collections.namedtuple("Source", "line name voltage tol sweeps")
+Branch = collections.namedtuple("Branch", "line from_node to_node phases kind parameters")
+Load = collections.namedtuple("Load", "line node phase kind vn p q")
+Feeder = collections.namedtuple("Feeder", "source branches loads")
+
+# Rows of a report. voltage and current are ((re, im) of A, of B, of C).
+NodeVoltage = collections.namedtuple("NodeVoltage", "line node voltage")
+BranchCurrent = collections.namedtuple("BranchCurrent", "line from_node to_node current loss_p loss_q")
+Totals = collections.namedtuple("Totals", "line sweeps source_p source_q drawn_p drawn_q lost_p lost_q")
+Report = collections.namedtuple("Report", "nodes currents totals")
+
+
+def _three(values):
+    """((re, im) of A, of B, of C) from six numbers."""
+    return tuple(zip(values[0::2], values[1::2]))
+
+
+def _read(data, tables, layout_number):
+    if len(data) > LARGEST_FILE:
+        raise NotLaidOut(9, 0)
+    reading = Reading(data, tables)
+    if reading.stopped is not None:
+        raise NotLaidOut(layout_number, reading.stopped)
+    return reading.rows
+
+
+def read_feeder(data):
+    """The Feeder of a file given as bytes. Only its layout is looked at here; NotLaidOut is raised where that is wrong."""
+    sources, branches, loads = _read(data, FEEDER_TABLES, 10)
+    line, values = sources[0]
+    return Feeder(
+        Source(line, values[0], _three(values[1:7]), values[7], values[8]),
+        [Branch(line, *values[:FIRST_PARAMETER], values[FIRST_PARAMETER:]) for line, values in branches],
+        [Load(line, *values) for line, values in loads],
+    )
+
+
+def read_report(data):
+    """The Report of a file given as bytes. Only its layout is looked at here; NotLaidOut is raised where that is wrong."""
+    nodes, currents, totals = _read(data, REPORT_TABLES, 50)
+    line, values = totals[0]
+    return Report(
+        [NodeVoltage(line, values[0], _three(values[1:])) for line, values in nodes],
+        [BranchCurrent(line, values[0], values[1], _three(values[2:8]), values[8], values[9]) for line, values in currents],
+        Totals(line, *values),
+    )

@@ -1,0 +1,306 @@
+import random
+import re
+import subprocess
+import unittest
+
+from flarecomb_tool import equations, explain, notes
+from flarecomb_tool.explain_layout import HABITS
+from flarecomb_tool.format import FEEDER_TABLES, LARGEST_FILE, read_feeder
+from tests.mistakes_table import MISTAKES
+from tests.support import EXAMPLES, MISTAKES_FOLDER, PROGRAMS, feeder_bytes, needs_programs, report_bytes
+
+
+def explained(mistake):
+    feeder = feeder_bytes(mistake.feeder)
+    if mistake.report is None:
+        return explain.study_refusal(feeder, mistake.number, mistake.value)
+    return explain.check_refusal(feeder, report_bytes(mistake.report), mistake.number, mistake.value)
+
+
+def answer(mistake):
+    """What the proved program writes."""
+    feeder = MISTAKES_FOLDER / f"{mistake.feeder}.feeder"
+    if mistake.report is None:
+        return subprocess.run([PROGRAMS / "study"], input=feeder.read_bytes(), capture_output=True, check=True).stdout
+    report = MISTAKES_FOLDER / f"{mistake.report}.report"
+    return subprocess.run([PROGRAMS / "archive_check", feeder, report], capture_output=True, check=True).stdout
+
+
+def noted(data):
+    """What stands beside the report of a feeder that has one."""
+    feeder = read_feeder(data)
+    report = "\n".join(equations.report_lines(feeder, equations.study(feeder))) + "\n"
+    return notes.beside_report(data, report.encode())
+
+
+class Mistakes(unittest.TestCase):
+    def test_notes_beside_a_report(self):
+        for mistake in MISTAKES:
+            if mistake.number == 0 and mistake.report is None:
+                with self.subTest(feeder=mistake.feeder):
+                    self.assertEqual("\n".join(mistake.explanation), noted(feeder_bytes(mistake.feeder)))
+
+    def test_explanations(self):
+        for mistake in MISTAKES:
+            if mistake.number:
+                with self.subTest(feeder=mistake.feeder, report=mistake.report):
+                    self.assertEqual("\n".join(mistake.explanation), explained(mistake))
+
+    def test_none_falls_back_on_the_rule(self):
+        for mistake in MISTAKES:
+            if mistake.number:
+                self.assertNotIn(explain.RULES[mistake.number], mistake.explanation, mistake.feeder)
+
+    def test_each_file_is_used(self):
+        used = {f"{mistake.feeder}.feeder" for mistake in MISTAKES} | {f"{mistake.report}.report" for mistake in MISTAKES if mistake.report}
+        self.assertEqual(used, {path.name for path in MISTAKES_FOLDER.iterdir() if path.suffix in (".feeder", ".report")})
+
+    def test_each_refusal_is_met(self):
+        met = {mistake.number for mistake in MISTAKES} - {0}
+        self.assertEqual(met, set(explain.RULES) - {9})
+
+    @needs_programs
+    def test_answers_of_the_programs(self):
+        for mistake in MISTAKES:
+            with self.subTest(feeder=mistake.feeder, report=mistake.report):
+                written = answer(mistake)
+                if mistake.number:
+                    self.assertEqual(f"refused {mistake.number} {mistake.value}\n".encode(), written)
+                elif mistake.report is None:
+                    self.assertTrue(written.startswith(b"node,"), written[:40])
+                else:
+                    self.assertEqual(b"pass\n", written)
+
+
+@needs_programs
+class Advice(unittest.TestCase):
+    """What an explanation says would help does help, by the proved study."""
+
+    def study(self, data):
+        return subprocess.run([PROGRAMS / "study"], input=data, capture_output=True, check=True).stdout.decode()
+
+    def advised(self, pattern):
+        """(bytes of the feeder, what the pattern found) for each mistake of the study whose explanation has the pattern."""
+        found = []
+        for mistake in MISTAKES:
+            match = re.search(pattern, "\n".join(mistake.explanation))
+            if match and mistake.report is None:
+                found.append((feeder_bytes(mistake.feeder), mistake, match))
+        self.assertTrue(found)
+        return found
+
+    def test_habits(self):
+        for data, mistake, _ in self.advised("With this mended in all lines the layout is sound"):
+            for said, mend in HABITS:
+                if said in mistake.explanation:
+                    data = mend(data)
+            self.assertFalse(self.study(data).startswith("refused 10 "), mistake.feeder)
+
+    def test_exchanged_ends(self):
+        for data, mistake, match in self.advised(r"exchanged \((\w+),(\w+)\)"):
+            mended = data.replace(f"\n{match[2]},{match[1]},".encode(), f"\n{match[1]},{match[2]},".encode())
+            self.assertNotEqual(data, mended)
+            self.assertTrue(self.study(mended).startswith("node,"), mistake.feeder)
+
+    def test_values_to_write(self):
+        for data, mistake, match in self.advised(r"has (\S+): .*Write (-?\w+)\b"):
+            lines = data.split(b"\n")
+            row = lines[mistake.value - 1].replace(match[1].encode(), match[2].encode(), 1).split(b",")
+            for name, value in re.findall(r"Column (\w+) likewise: write (-?\w+)", "\n".join(mistake.explanation)):
+                table = next(table for table in FEEDER_TABLES if len(table.columns) == len(row))
+                row[[column.name for column in table.columns].index(name)] = value.encode()
+            lines[mistake.value - 1] = b",".join(row)
+            self.assertNotEqual(f"refused 10 {mistake.value}\n", self.study(b"\n".join(lines)), mistake.feeder)
+
+    def test_voltages_in_another_unit(self):
+        """With every voltage mended that is named there is a report with no note on voltages."""
+        pattern = r"(vn|Voltages) (?:is|are) in cV: if \d+ (V|kV) is meant, it is \d+\.(?: The same holds for vn in lines? ([^.]*)\.)?"
+        for data, mistake, match in self.advised(pattern):
+            factor = {"V": 100, "kV": 100000}[match[2]]
+            numbers = re.sub(r"(\d+) to (\d+)", lambda run: ",".join(map(str, range(int(run[1]), int(run[2]) + 1))), match[3] or "")
+            vn_lines = [int(number) for number in re.findall(r"\d+", numbers)]
+            lines = [line.split(",") for line in data.decode().split("\n")]
+            if match[1] == "Voltages":
+                lines[1][1:7] = [str(int(value) * factor) for value in lines[1][1:7]]
+            else:
+                vn_lines.append(int(re.search(r"vn in line (\d+) is|The load in line (\d+)", "\n".join(mistake.explanation)).expand(r"\1\2")))
+            for number in vn_lines:
+                lines[number - 1][3] = str(int(lines[number - 1][3]) * factor)
+            mended = "\n".join(",".join(fields) for fields in lines).encode()
+            written = self.study(mended)
+            self.assertTrue(written.startswith("node,"), (mistake.feeder, written))
+            self.assertNotRegex(notes.beside_report(mended, written.encode()), "vn|source", mistake.feeder)
+
+    def test_source_by_the_loads(self):
+        for data, mistake, match in self.advised(r"each of its six values is then (\d+) times as large"):
+            lines = data.decode().split("\n")
+            source = lines[1].split(",")
+            source[1:7] = [str(int(value) * int(match[1])) for value in source[1:7]]
+            written = self.study("\n".join([lines[0], ",".join(source), *lines[2:]]).encode())
+            self.assertTrue(written.startswith("node,"), (mistake.feeder, written))
+
+    def test_more_sweeps_or_a_larger_tol(self):
+        for data, mistake, match in self.advised(r"With more sweeps it settles: it takes (\d+)|With tol (\d+) it ends in sweep (\d+)"):
+            lines = data.split(b"\n")
+            source = lines[1].decode().split(",")
+            source[7], source[8] = match[2] or source[7], match[1] or source[8]
+            lines[1] = ",".join(source).encode()
+            written = self.study(b"\n".join(lines))
+            self.assertEqual(match[1] or match[3], written.split("\n")[-2].split(",")[0], mistake.feeder)
+
+
+class Size(unittest.TestCase):
+    def test_long_feeder(self):
+        text = explain.study_refusal(b"x" * 200000, 9, 0, "long.feeder")
+        self.assertIn("long.feeder:\nThe file has 200000 bytes", text)
+        self.assertIn("at most 65536 bytes", text)
+
+    def test_the_long_one_of_two_files_is_named(self):
+        long = b"\n" * (LARGEST_FILE + 1)
+        self.assertTrue(explain.check_refusal(b"", long, 9, 0, "f", "r").startswith("r:\n"))
+        self.assertTrue(explain.check_refusal(long, b"", 9, 0, "f", "r").startswith("f:\n"))
+
+
+class Rules(unittest.TestCase):
+    """Where the reading here does not arrive at the answer's place, the rule is said and nothing else."""
+
+    def test_sound_feeder(self):
+        sound = feeder_bytes("sound")
+        for number in (10, 11, 20, 21, 22, 23, 24):
+            for value in (1, 5, 6, 10, 99):
+                self.assertEqual(explain.RULES[number], explain.study_refusal(sound, number, value).split("\n")[-1], (number, value))
+        for number in (30, 31, 32, 33, 34):
+            self.assertEqual(["the feeder:", explain.RULES[number]], explain.study_refusal(sound, number, 1).split("\n"))
+
+    def test_another_line(self):
+        self.assertEqual(explain.RULES[10], explain.study_refusal(feeder_bytes("plus_sign"), 10, 5).split("\n")[-1])
+
+    def test_unknown_number(self):
+        self.assertIn("not known", explain.study_refusal(feeder_bytes("sound"), 77, 1))
+
+
+def mangled(chance, data):
+    """The bytes with a few changes of the kinds that editors and people make."""
+    data = bytearray(data)
+    for _ in range(chance.randint(1, 3)):
+        place = chance.randrange(len(data) + 1)
+        change = chance.randrange(7)
+        if change == 0:
+            data[place:place] = bytes([chance.randrange(256)])
+        elif change == 1:
+            del data[place : place + chance.choice((1, 1, 2, 40))]
+        elif change == 2:
+            data[place : place + 1] = chance.choice((b",", b"\n", b"0", b"9", b"-", b"A", b"C", b"R", b"Y", b"Z", b"N1", b" ", b"\r\n", b";"))
+        elif change == 3:
+            lines = bytes(data).split(b"\n")
+            one, other = chance.randrange(len(lines)), chance.randrange(len(lines))
+            lines[one], lines[other] = lines[other], lines[one]
+            data = bytearray(b"\n".join(lines))
+        elif change == 4:
+            lines = bytes(data).split(b"\n")
+            lines.insert(chance.randrange(len(lines)), chance.choice(lines))
+            data = bytearray(b"\n".join(lines))
+        else:
+            # a word of the file in the place of another, which keeps the layout more often
+            words = re.split(rb"([,\n])", bytes(data))
+            places = range(0, len(words), 2)
+            words[chance.choice(places)] = words[chance.choice(places)]
+            data = bytearray(b"".join(words))
+    return bytes(data)
+
+
+class AnyBytes(unittest.TestCase):
+    NUMBERS = sorted(explain.RULES) + [0, 40, 77]
+
+    def look_at(self, text):
+        self.assertTrue(text.strip())
+        # each character can be shown on every terminal
+        self.assertRegex(text, r"\A[\n -~]*\Z")
+
+    def test_every_number_on_every_kind_of_bytes(self):
+        chance = random.Random(1)
+        sound, report = feeder_bytes("sound"), report_bytes("sound")
+        for data in (b"", b"\n", b"\r", b",", b"\xef\xbb\xbf", b"\x00" * 50, bytes(range(256)), b"," * 70000, b"\n" * 70000, b"9" * 200000,
+                     chance.randbytes(200000), sound * 400, sound, report):
+            for number in self.NUMBERS:
+                for value in (0, 1, 2, 13, 70001):
+                    self.look_at(explain.study_refusal(data, number, value))
+                    self.look_at(notes.beside_report(data, report) or "none")
+                    self.look_at(notes.beside_report(sound, data) or "none")
+                    if number >= 30 and len(data) < 1000:
+                        self.look_at(explain.check_refusal(sound, data, number, value))
+                        self.look_at(explain.check_refusal(data, report, number, value))
+
+    def test_mangled_files(self):
+        chance = random.Random(2)
+        sources = [path.read_bytes() for path in sorted(EXAMPLES.glob("*.feeder"))[:3]] + [feeder_bytes("sound")]
+        report = report_bytes("sound")
+        for _ in range(400):
+            data = mangled(chance, chance.choice(sources))
+            number = chance.choice(self.NUMBERS)
+            self.look_at(explain.study_refusal(data, number, chance.randrange(16)))
+            other = mangled(chance, report)
+            self.look_at(notes.beside_report(data, report) or "none")
+            self.look_at(notes.beside_report(sources[-1], other) or "none")
+            self.look_at(explain.check_refusal(sources[-1], other, chance.choice(self.NUMBERS), chance.randrange(15)))
+
+    @needs_programs
+    def test_answers_on_mangled_files_are_explained(self):
+        """The reading here arrives at the place that the proved program names, so that more than the rule is said; and at its reports."""
+        chance = random.Random(3)
+        reports = 0
+        sources = [path.read_bytes() for path in sorted(EXAMPLES.glob("*.feeder"))] + [feeder_bytes("sound")]
+        met = set()
+        for _ in range(1500):
+            data = mangled(chance, chance.choice(sources))
+            written = subprocess.run([PROGRAMS / "study"], input=data, capture_output=True, check=True).stdout
+            if written.startswith(b"refused"):
+                number, value = map(int, written.split()[1:])
+                met.add(number)
+                text = explain.study_refusal(data, number, value)
+                self.look_at(text)
+                self.assertNotIn(explain.RULES[number], text.split("\n"), data)
+            else:
+                reports += 1
+                feeder = read_feeder(data)
+                lines = equations.report_lines(feeder, equations.study(feeder))
+                self.assertEqual(written.decode(), "\n".join(lines) + "\n", data)
+                self.look_at(notes.beside_report(data, written) or "none")
+        self.assertGreaterEqual(met, {10, 11, 20, 21, 23, 24})
+        self.assertGreater(reports, 50)
+
+    @needs_programs
+    def test_answers_on_mangled_mistakes(self):
+        """The same on the mistakes, which have further faults then; a report has notes or none."""
+        chance = random.Random(5)
+        sources = [feeder_bytes(mistake.feeder) for mistake in MISTAKES if mistake.report is None and len(feeder_bytes(mistake.feeder)) < 1000]
+        for data in sources + [mangled(chance, data) for data in sources for _ in range(3) if data]:
+            written = subprocess.run([PROGRAMS / "study"], input=data, capture_output=True, check=True).stdout
+            if written.startswith(b"refused"):
+                number, value = map(int, written.split()[1:])
+                text = explain.study_refusal(data, number, value)
+                self.look_at(text)
+                self.assertNotIn(explain.RULES[number], text.split("\n"), data)
+                self.assertLessEqual(len(text.split("\n")), 8, text)
+            else:
+                self.look_at(notes.beside_report(data, written) or "none")
+
+    @needs_programs
+    def test_answers_on_mangled_reports_are_explained(self):
+        chance = random.Random(4)
+        feeder, report = MISTAKES_FOLDER / "sound.feeder", report_bytes("sound")
+        met = set()
+        for _ in range(600):
+            data = mangled(chance, report)
+            written = subprocess.run([PROGRAMS / "archive_check", feeder, "/dev/stdin"], input=data, capture_output=True, check=True).stdout
+            if written.startswith(b"refused"):
+                number, value = map(int, written.split()[1:])
+                met.add(number)
+                text = explain.check_refusal(feeder.read_bytes(), data, number, value)
+                self.look_at(text)
+                self.assertNotIn(explain.RULES[number], text.split("\n"), data)
+        self.assertGreaterEqual(met, {50, 51, 52, 53, 54, 55})
+
+
+if __name__ == "__main__":
+    unittest.main()

@@ -1,0 +1,90 @@
+import unittest
+
+from flarecomb_tool import format as files
+from tests.support import EXAMPLES, feeder_bytes, report_bytes
+
+
+class Columns(unittest.TestCase):
+    def test_names_are_those_of_the_examples(self):
+        feeder = (EXAMPLES / "example.feeder").read_text().split("\n")
+        report = (EXAMPLES / "example.report").read_text().split("\n")
+        self.assertEqual([feeder[0], feeder[3], feeder[6]], [files.header(table) for table in files.FEEDER_TABLES])
+        self.assertEqual([report[0], report[4], report[7]], [files.header(table) for table in files.REPORT_TABLES])
+
+    def test_each_kind_has_twelve_parameters(self):
+        for kind, columns in files.PARAMETERS.items():
+            self.assertEqual([f"p{place}" for place in range(1, 13)], [column.name for column in columns], kind)
+
+    def test_zero_is_due_where_a_phase_is_absent(self):
+        due = [column.name for column in files.PARAMETERS["L"] if files.zero_is_due(column, "AC")]
+        self.assertEqual(["p3", "p4", "p7", "p8", "p9", "p10"], due)
+        self.assertEqual(["p2"] + [f"p{place}" for place in range(4, 13)],
+                         [column.name for column in files.PARAMETERS["R"] if files.zero_is_due(column, "AC")])
+        self.assertEqual(["p9", "p10", "p11", "p12"], [column.name for column in files.PARAMETERS["D"] if files.zero_is_due(column, "ABC")])
+
+    def test_limits(self):
+        taps = files.PARAMETERS["R"][0]
+        self.assertEqual([True, False, False, True], [files.outside_limit(taps, tap) for tap in (-17, -16, 16, 17)])
+        # a field that can only be 0 has no limit
+        self.assertFalse(files.outside_limit(files.PARAMETERS["R"][3], 10**17))
+
+
+class Fields(unittest.TestCase):
+    def test_numbers(self):
+        column = files.SOURCE.columns[1]
+        for field, value in ((b"0", 0), (b"-1", -1), (b"9" * 18, 10**18 - 1)):
+            self.assertEqual(value, files.read_field(column, field))
+        for field in (b"", b"-", b"-0", b"01", b"+1", b" 1", b"1\r", b"1.0", b"9" * 19, "\u0661".encode(), b"1\n"):
+            self.assertIsNone(files.read_field(column, field), field)
+
+    def test_names(self):
+        column = files.SOURCE.columns[0]
+        self.assertEqual("A1B2C3D4", files.read_field(column, b"A1B2C3D4"))
+        for field in (b"", b"A1B2C3D4E", b"a", b"A_", b"A ", "\u00c4".encode(), b"A\n"):
+            self.assertIsNone(files.read_field(column, field), field)
+
+
+class Files(unittest.TestCase):
+    def test_lines_of_any_bytes(self):
+        self.assertEqual([], files.split_lines(b""))
+        self.assertEqual([files.Line(1, b"", True)], files.split_lines(b"\n"))
+        self.assertEqual([files.Line(1, b"a\r", True), files.Line(2, b"", True), files.Line(3, b"b", False)], files.split_lines(b"a\r\n\nb"))
+
+    def test_feeder(self):
+        feeder = files.read_feeder(feeder_bytes("sound"))
+        self.assertEqual(files.Source(2, "S", ((720000, 0), (-360000, -623538), (-360000, 623538)), 1, 20), feeder.source)
+        self.assertEqual(files.Branch(6, "N1", "N2", "AB", "R", (-3, 4) + (0,) * 10), feeder.branches[1])
+        self.assertEqual(files.Load(12, "N1", "C", "Z", 720000, 0, -100000), feeder.loads[2])
+        self.assertEqual([5, 6, 7], [branch.line for branch in feeder.branches])
+
+    def test_report(self):
+        report = files.read_report(report_bytes("sound"))
+        self.assertEqual(files.NodeVoltage(5, "N3", ((704167, -1407), (0, 0), (0, 0))), report.nodes[3])
+        self.assertEqual(files.BranchCurrent(10, "N2", "N3", ((17030, -5714), (0, 0), (0, 0)), 16127646, 22577394), report.currents[2])
+        self.assertEqual((13, 3, 25245349164), report.totals[:3])
+
+    def test_lines_where_the_layout_is_left(self):
+        sound = feeder_bytes("sound")
+        for data, line in ((b"", 1), (sound[:-1], 13), (sound + b"\n", 14), (sound.split(b"\n")[0] + b"\n", 2)):
+            with self.assertRaises(files.NotLaidOut) as caught:
+                files.read_feeder(data)
+            self.assertEqual((10, line), (caught.exception.number, caught.exception.line))
+        with self.assertRaises(files.NotLaidOut) as caught:
+            files.read_report(sound)
+        self.assertEqual((50, 1), (caught.exception.number, caught.exception.line))
+
+    def test_largest_file(self):
+        # Loads are read for layout also past 300 rows, so that a file of just 65,536 bytes can be well laid out.
+        data = feeder_bytes("no_loads")
+        row = b"N1,A,P,1,1,1\n"
+        count, rest = divmod(files.LARGEST_FILE - len(data), len(row))
+        data += row * (count - 1) + row.replace(b",1\n", b",1" + b"1" * rest + b"\n")
+        self.assertEqual(files.LARGEST_FILE, len(data))
+        self.assertGreater(len(files.read_feeder(data).loads), files.MOST_LOADS)
+        with self.assertRaises(files.NotLaidOut) as caught:
+            files.read_feeder(data + b"N")
+        self.assertEqual(9, caught.exception.number)
+
+
+if __name__ == "__main__":
+    unittest.main()

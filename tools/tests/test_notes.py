@@ -1,0 +1,106 @@
+import unittest
+
+from flarecomb_tool import equations, notes
+from flarecomb_tool.format import read_feeder
+from flarecomb_tool.wording import lines_said
+from tests.commands import SOURCE_ROW, feeder_text, join, line_row
+
+LOAD = "N1,A,P,720000,72000,0"
+
+
+def noted(source=SOURCE_ROW, branches=(line_row("S", "N1", "ABC", [300000, 600000, 0, 0, 0, 0, 300000, 600000, 0, 0, 300000, 600000]),), loads=(LOAD,)):
+    """The notes on a feeder of these rows, with its report."""
+    feeder = feeder_text(source, branches, loads)
+    read = read_feeder(feeder.encode())
+    return notes.notes_of(join(feeder, "\n".join(equations.report_lines(read, equations.study(read))) + "\n"))
+
+
+def source_row(*voltages):
+    return ",".join(["S", *map(str, voltages), "1", "20"])
+
+
+class Notes(unittest.TestCase):
+    def assert_none(self, **rows):
+        self.assertEqual(noted(**rows), [])
+
+    def assert_lines(self, expected, word, **rows):
+        found = [note.line for note in noted(**rows) if word in note.text]
+        self.assertEqual(found, expected)
+
+    def test_nothing_to_say(self):
+        self.assert_none()
+        self.assertEqual(notes.beside_report(b"", b""), "")
+
+    def test_source_of_one_or_two_phases(self):
+        self.assert_none(source=source_row(720000, 0, 0, 0, 0, 0))
+        self.assert_none(source=source_row(720000, 0, -360000, -623538, 0, 0))
+
+    def test_source_turned_as_a_whole(self):
+        # A at 30 degrees, B at -90, C at 150
+        self.assert_none(source=source_row(623538, 360000, 0, -720000, -623538, 360000))
+        self.assert_lines([2], "order A, C, B", source=source_row(623538, 360000, -623538, 360000, 0, -720000))
+
+    def test_source_nearly_120_degrees_apart(self):
+        self.assert_none(source=source_row(720000, 0, -300000, -623538, -360000, 623538))
+        self.assert_lines([2], "not 120 degrees apart", source=source_row(720000, 0, 360000, -623538, -360000, 623538))
+        self.assert_lines([2], "not 120 degrees apart", source=source_row(720000, 0, 720000, 0, 720000, 0))
+
+    def test_no_load_rows(self):
+        self.assert_lines([None], "no load rows", loads=())
+
+    def test_the_same_load_row_twice(self):
+        self.assert_lines([8], "lines 8, 9 and 11", loads=(LOAD, LOAD, "N1,A,P,720000,72001,0", LOAD))
+        # rows of nothing change nothing
+        self.assert_none(loads=(LOAD, "N1,B,P,720000,0,0", "N1,B,P,720000,0,0"))
+
+    def test_loss_that_only_rounding_makes_negative(self):
+        """A line of reactance alone loses no real power, but its rounded drop can give the report a loss of a few grains below 0."""
+        below_zero = 0
+        for watts in range(1000, 9000, 37):
+            branch, load = line_row("S", "N1", "A", [0, 100000]), f"N1,A,P,720000,{watts},{watts // 3}"
+            feeder = read_feeder(feeder_text(SOURCE_ROW, [branch], [load]).encode())
+            lost = equations.report_lines(feeder, equations.study(feeder))[-1].split(",")[5]
+            below_zero += int(lost) < 0
+            self.assert_none(branches=(branch,), loads=(load,))
+        self.assertGreater(below_zero, 0)
+
+    def test_mutual_resistance_above_the_phases_own(self):
+        branch = line_row("S", "N1", "AB", [100000, 600000, 300000, 300000, 0, 0, 100000, 600000])
+        self.assert_lines([5], "loses -", branches=(branch,), loads=(LOAD, "N1,B,P,720000,72000,0"))
+
+    def test_small_impedances(self):
+        large = line_row("S", "N1", "A", [300000, 600000])
+        self.assert_lines([6], "r of aa 999 micro-ohms", branches=(large, line_row("N1", "N2", "A", [999, 600000])))
+        self.assert_none(branches=(large, line_row("N1", "N2", "A", [1000, 600000])))
+        # a line of 0 ohm joins two nodes
+        self.assert_none(branches=(large, line_row("N1", "N2", "A", [0, 0])))
+
+    def test_many_of_a_kind(self):
+        found = noted(loads=[f"N1,A,P,7200,{watts},0" for watts in range(1000, 1020)])
+        self.assertEqual([note.line for note in found], [8, 9, 10, 11, 12, 13, None])
+        self.assertEqual(found[-1].text, "likewise lines 14 to 27")
+
+    def test_warnings_are_the_notes(self):
+        joined = join(*self.files(loads=()))
+        self.assertEqual(notes.warnings(joined), ["feeder: there are no load rows: all currents are 0"])
+        self.assertEqual(notes.beside_report(*(text.encode() for text in self.files(loads=()))),
+                         "The report is made. Please look at:\nThere are no load rows: all currents are 0.")
+
+    def files(self, loads):
+        feeder = feeder_text(SOURCE_ROW, [line_row("S", "N1", "A", [300000, 600000])], loads)
+        read = read_feeder(feeder.encode())
+        return feeder, "\n".join(equations.report_lines(read, equations.study(read))) + "\n"
+
+
+class Lines(unittest.TestCase):
+    def test_lines_said(self):
+        for numbers, said in (
+            ([5], "line 5"), ([5, 5], "line 5"), ([6, 5], "lines 5 and 6"), ([11, 6, 7], "lines 6, 7 and 11"), (range(10, 14), "lines 10 to 13"),
+            ([1, 3, 4, 5, 9], "lines 1, 3 to 5 and 9"),
+        ):
+            self.assertEqual(lines_said(numbers), said)
+        self.assertTrue(lines_said(range(1, 100, 2)).endswith(", 21, 23 and 38 more"))
+
+
+if __name__ == "__main__":
+    unittest.main()
