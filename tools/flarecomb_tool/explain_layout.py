@@ -81,8 +81,8 @@ def _after(data, tables, habits):
         data = mend(data)
     stopped = Reading(data, tables).stopped
     if stopped is None:
-        return "With this mended in all lines the layout is sound."
-    return f"With this mended in all lines, line {stopped} would be refused next."
+        return "Mend it wherever it stands: the layout is then sound."
+    return f"Mend it wherever it stands: line {stopped} would be refused next."
 
 
 def _due_said(reading):

@@ -18,7 +18,7 @@ MOST_OF_A_KIND = 6
 # The most that the format has is 20,000 V: a source under 20,000 can be one that was written in V and not in cV.
 LEAST_SOURCE_CENTIVOLTS = 20_000
 # A load row of the smallest kind of customer is far over this; a whole feeder under it was written in kW or MW.
-LEAST_FEEDER_WATTS = 120
+LEAST_FEEDER_WATTS = 1_000
 # 0.001 ohm is a few metres of conductor, 0.01 ohm some tens of metres.
 LEAST_LINE_MICROOHMS = 1_000
 LEAST_FEEDER_MICROOHMS = 10_000

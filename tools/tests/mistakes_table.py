@@ -12,19 +12,19 @@ MISTAKES = (
         "the feeder, line 1:",
         "    source,va_re,va_im,vb_re,vb_im,vc_re,vc_im,tol,sweeps<CR>",
         "The line ends in CR LF, where LF alone is due: save the file with LF line ends.",
-        "With this mended in all lines the layout is sound.",
+        "Mend it wherever it stands: the layout is then sound.",
     )),
     Mistake("byte_order_mark", None, 10, 1, (
         "the feeder, line 1:",
         "    <byte order mark>source,va_re,va_im,vb_re,vb_im,vc_re,vc_im,tol,sweeps",
         "The file begins with a byte order mark: save it as plain ASCII, without one.",
-        "With this mended in all lines the layout is sound.",
+        "Mend it wherever it stands: the layout is then sound.",
     )),
     Mistake("blanks_behind_commas", None, 10, 1, (
         "the feeder, line 1:",
         "    source, va_re, va_im, vb_re, vb_im, vc_re, vc_im, tol, sweeps",
         "Blanks stand beside values or at an end of the line: remove them.",
-        "With this mended in all lines the layout is sound.",
+        "Mend it wherever it stands: the layout is then sound.",
     )),
     Mistake("lower_case_name", None, 10, 6, (
         "the feeder, line 6:",
@@ -43,7 +43,7 @@ MISTAKES = (
         "the feeder, line 10:",
         '    N3,A,P,720000,"120,000",40000',
         "Quotes stand around values: write them without quotes, and numbers without thousands commas.",
-        "With this mended in all lines the layout is sound.",
+        "Mend it wherever it stands: the layout is then sound.",
     )),
     Mistake("missing_vn", None, 10, 10, (
         "the feeder, line 10:",
@@ -94,19 +94,19 @@ MISTAKES = (
         "the feeder, line 3:",
         "    ,,,,,,,,,,,,,,,",
         "Commas of empty cells stand at the end of the line, as a sheet pads its rows: remove them.",
-        "With this mended in all lines the layout is sound.",
+        "Mend it wherever it stands: the layout is then sound.",
     )),
     Mistake("padding_commas", None, 10, 1, (
         "the feeder, line 1:",
         "    source,va_re,va_im,vb_re,vb_im,vc_re,vc_im,tol,sweeps,,,,,,,",
         "Commas of empty cells stand at the end of the line, as a sheet pads its rows: remove them.",
-        "With this mended in all lines the layout is sound.",
+        "Mend it wherever it stands: the layout is then sound.",
     )),
     Mistake("semicolons", None, 10, 1, (
         "the feeder, line 1:",
         "    source;va_re;va_im;vb_re;vb_im;vc_re;vc_im;tol;sweeps",
         "Semicolons separate the values, where commas are due.",
-        "With this mended in all lines the layout is sound.",
+        "Mend it wherever it stands: the layout is then sound.",
     )),
     Mistake("exponent", None, 10, 10, (
         "the feeder, line 10:",
@@ -297,7 +297,7 @@ MISTAKES = (
         "the feeder, line 1:",
         "    source<TAB>va_re<TAB>va_im<TAB>vb_re<TAB>vb_im<TAB>vc_re<TAB>vc_im<TAB>tol<TAB>sweeps",
         "Tabs separate the values, where commas are due.",
-        "With this mended in all lines the layout is sound.",
+        "Mend it wherever it stands: the layout is then sound.",
     )),
     Mistake("saved_by_a_sheet", None, 10, 1, (
         "the feeder, line 1:",
@@ -305,7 +305,7 @@ MISTAKES = (
         "The file begins with a byte order mark: save it as plain ASCII, without one.",
         "The line ends in CR LF, where LF alone is due: save the file with LF line ends.",
         "Commas of empty cells stand at the end of the line, as a sheet pads its rows: remove them.",
-        "With this mended in all lines the layout is sound.",
+        "Mend it wherever it stands: the layout is then sound.",
     )),
     Mistake("semicolons_and_decimal_commas", None, 10, 1, (
         "the feeder, line 1:",
@@ -992,7 +992,7 @@ MISTAKES = (
         "the feeder, line 1:",
         "    > source,va_re,va_im,vb_re,vb_im,vc_re,vc_im,tol,sweeps",
         "The line begins with >, as quoted mail has it: remove this mark.",
-        "With this mended in all lines the layout is sound.",
+        "Mend it wherever it stands: the layout is then sound.",
     )),
     Mistake("merge_marks", None, 10, 10, (
         "the feeder, line 10:",
@@ -1101,7 +1101,7 @@ MISTAKES = (
         "the report, line 1:",
         "    node,va_re,va_im,vb_re,vb_im,vc_re,vc_im<CR>",
         "The line ends in CR LF, where LF alone is due: save the file with LF line ends.",
-        "With this mended in all lines the layout is sound.",
+        "Mend it wherever it stands: the layout is then sound.",
     )),
     Mistake("sound", "saved_refusal", 50, 0, (
         "the report, line 1:",

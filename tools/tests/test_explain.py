@@ -90,7 +90,7 @@ class Advice(unittest.TestCase):
         return found
 
     def test_habits(self):
-        for data, mistake, _ in self.advised("With this mended in all lines the layout is sound"):
+        for data, mistake, _ in self.advised("Mend it wherever it stands: the layout is then sound"):
             for said, mend in HABITS:
                 if said in mistake.explanation:
                     data = mend(data)

@@ -337,7 +337,7 @@ class Warnings(unittest.TestCase):
 
     def test_a_whole_feeder_in_kilowatts(self):
         self.assert_one(self.warned((",72000,0", ",72,0")), "all loads together are 72 W and 0 var")
-        self.assertEqual(self.warned((",72000,0", ",120,0")), [])
+        self.assertEqual(self.warned((",72000,0", ",1000,0")), [])
 
     def test_a_line_in_milliohms(self):
         self.assert_one(self.warned(("L,1000000", "L,1000")), "no line has more than 1000 micro-ohms (0.001 ohm)")
