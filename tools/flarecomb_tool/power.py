@@ -5,7 +5,7 @@ import math
 
 from . import equations
 from .equations import ZERO, conjugate, rounded_pair, scaled, times, total
-from .format import GRAINS_IN_A_WATT
+from .format import GRAINS_IN_A_WATT, PHASES
 
 
 def square(pair):
@@ -58,7 +58,7 @@ def load_allowance(tol, current, voltage):
 
 def branch_allowance(branch, tol, currents, from_voltages):
     """A line has 1 once, and a transformer 1 once beside what its phases have."""
-    places = ["ABC".index(phase) for phase in branch.phases]
+    places = [PHASES.index(phase) for phase in branch.phases]
     current = sum(size(currents[place]) for place in places)
     voltage = sum(size(from_voltages[place]) for place in places)
     if branch.kind == "L":

@@ -4,7 +4,7 @@ import hashlib
 
 from . import explain, format, joined as joining, notes, power, programs
 from .equations import ZERO, plus, rounded
-from .wording import counted
+from .wording import counted, decimal_text
 
 CHECK = "archive check"  # the label of the check's answer
 
@@ -14,15 +14,6 @@ Column = collections.namedtuple("Column", "side name unit is_text", defaults=(Fa
 Table = collections.namedtuple("Table", "title columns rows")
 # facts are pairs of a label and its text.
 Shown = collections.namedtuple("Shown", "joined facts warnings tables")
-
-
-def decimal_text(number, unit_exponent, places):
-    """number / 10^unit_exponent with so many decimals, to the nearest, a tie away from zero; worked in whole numbers."""
-    shift = unit_exponent - places
-    whole = rounded(number, 10 ** shift) if shift >= 0 else number * 10 ** -shift
-    digits = str(abs(whole)).rjust(places + 1, "0")
-    sign = "-" if whole < 0 else ""
-    return sign + (f"{digits[:-places]}.{digits[-places:]}" if places else digits)
 
 
 def volts(pair):

@@ -1,5 +1,7 @@
-"""Bytes and lists put into words."""
+"""Bytes, lists and amounts put into words."""
 import unicodedata
+
+from .equations import rounded
 
 LONGEST_QUOTE = 200
 
@@ -68,23 +70,26 @@ def phases_said(phases):
     return ("phase " if len(phases) == 1 else "phases ") + listed(phases)
 
 
-def _in_parts(value, factor):
-    """A whole number divided by 100, 1000 or 1000000, with all of its digits."""
-    digits = len(str(factor)) - 1
-    return f"{'-' if value < 0 else ''}{abs(value) // factor}.{abs(value) % factor:0{digits}d}"
+def decimal_text(number, unit_exponent, places):
+    """number / 10^unit_exponent with so many decimals, to the nearest, a tie away from zero; worked in whole numbers."""
+    shift = unit_exponent - places
+    whole = rounded(number, 10 ** shift) if shift >= 0 else number * 10 ** -shift
+    digits = str(abs(whole)).rjust(places + 1, "0")
+    sign = "-" if whole < 0 else ""
+    return sign + (f"{digits[:-places]}.{digits[-places:]}" if places else digits)
 
 
 def volts(centivolts):
-    return _in_parts(centivolts, 100) + " V"
+    return decimal_text(centivolts, 2, 2) + " V"
 
 
 def amperes(milliamperes):
-    return _in_parts(milliamperes, 1000) + " A"
+    return decimal_text(milliamperes, 3, 3) + " A"
 
 
 def ohms(micro_ohms):
-    return _in_parts(micro_ohms, 1000000).rstrip("0").rstrip(".") + " ohm"
+    return decimal_text(micro_ohms, 6, 6).rstrip("0").rstrip(".") + " ohm"
 
 
 def watts(grains):
-    return _in_parts(grains, 100000) + " W"
+    return decimal_text(grains, 5, 5) + " W"
