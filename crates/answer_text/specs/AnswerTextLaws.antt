@@ -1,16 +1,14 @@
 -- A text that was written from the start of a buffer, or one that has no room there. Assumes nothing.
-use mathlib.Core.Bool.{cond, false, true}
 use mathlib.Core.List.{List, [], _++_}
 use mathlib.Core.Path.{_∙_, _≡_, ap, refl, sym}
 use Prim.Native.Nat.{_+_, _<_, _≤_, ℕ}
 use native.Mathlib.Omega.{arith}
-use lib.Dec.{ltb}
-use lib.ListN.{drop, length, length-append, length-drop}
+use lib.ListN.{drop, length, length-append}
 use lib.Seq.{length-take-le}
 use borrow.Author.Tests.{le-ltb, lt-ltb}
 use Rattle.answer_text.specs.AnswerText.{PutAtStart, refusedLine, wholeOrNothing}
 use Rattle.text.specs.Promises.{Written}
-use Rattle.text.specs.Stores.{written-length, written-parts}
+use Rattle.text.specs.Stores.{written-parts}
 use Rattle.text.specs.Text.{bytes, digits}
 use Rattle.text.specs.TextLaws.{decimal-natural, digits-fit}
 

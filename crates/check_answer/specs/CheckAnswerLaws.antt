@@ -1,6 +1,6 @@
 -- The text of a verdict; "pass" is written of what meets the power account, and of nothing else. Assumes nothing.
-use mathlib.Core.List.{List, [], _∷_}
-use mathlib.Core.Path.{_∙_, _≡_, ap, refl, sym}
+use mathlib.Core.List.{List}
+use mathlib.Core.Path.{_≡_, ap, refl}
 use Prim.Native.Nat.{_≤_, ℕ}
 use native.Mathlib.Omega.{arith}
 use lib.ListN.{getD, length}

@@ -1,9 +1,9 @@
 -- The words of all answers fit into 64 bits, and each can be taken apart into the sweeps, the number and the value. Assumes nothing.
 use mathlib.Core.List.{List}
-use mathlib.Core.Path.{_∙_, _≡_, refl, sym}
-use Prim.Native.Nat.{_%_, _*_, _+_, _/_, _<_, _≤_, _^_, ℕ}
+use mathlib.Core.Path.{_∙_, _≡_, refl}
+use Prim.Native.Nat.{_<_, _≤_, _^_, ℕ}
 use native.Mathlib.Omega.{arith}
-use Rattle.answers.specs.Answers.{Told, numberOf, valueOf}
+use Rattle.answers.specs.Answers.{numberOf, valueOf}
 use Rattle.answers.specs.declared.Refusal.{Refusal}
 use Rattle.answers.specs.declared.Refusal.the-variants.{BufferShort, CurrentBeyond, CurrentDiffers, Layout, LoadBeyond, NameDiffers, NotReached, NotSettled, NotZero, OutOfLimit, PhaseAbsent, ReportLayout, SecondTo, SourceDiffers, TooLong, TotalDiffers, UnknownFrom, VoltageBeyond, VoltageOff, ZeroVoltage}
 use Rattle.flarecomb.specs.CheckValues.{check-value}

@@ -1,5 +1,4 @@
 -- What the exported calls answer: one number of 64 bits, made of the sweeps, of the number of a refusal and of the value beside it. Assumes nothing.
-use mathlib.Core.List.{List}
 use mathlib.Core.Path.{_≡_}
 use Prim.Native.Nat.{_%_, _*_, _+_, _/_, _<_, _^_, ℕ}
 use Rattle.answers.specs.Answers.{Done, Outcome, Told}

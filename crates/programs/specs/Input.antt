@@ -1,7 +1,7 @@
 -- What is handed over of an input that was read. Assumes nothing.
 use mathlib.Core.Bool.{false}
 use mathlib.Core.Path.{_≡_}
-use Prim.Native.Nat.{_≤_, ℕ}
+use Prim.Native.Nat.{_≤_}
 use Rattle.programs.specs.declared.Input.{Input}
 
 -- the whole input, or more than 65,536 bytes of it: with 65,536 or fewer the reading did not stop for want of room

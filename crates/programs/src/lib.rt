@@ -121,7 +121,6 @@ pub fn print_answer(answer: &[u8]) {
 pub fn print_refusal(x: Refusal) -> bool {
     let mut line = io::buffer();
     let n = put_refusal(&mut line, x);
-    let n = used(n, &line);
     print(&line[..n])
 }
 

@@ -4,7 +4,7 @@ use mathlib.Core.Path.{_∙_, _≡_, refl}
 use Prim.Native.Nat.{_+_, _<_, suc, ℕ}
 use native.Mathlib.Nat.{add-assoc, not-suc-le-zero}
 use native.Mathlib.Omega.{arith}
-use lib.IntN.{natAbs, ℤ}
+use lib.IntN.{ℤ}
 use lib.ListN.{drop, length, length-append}
 use borrow.Author.Tests.{ne-eqb}
 use Rattle.answers.specs.Answers.{good}

@@ -7,7 +7,7 @@ use Prim.Native.String.{String}
 use native.Mathlib.Omega.{arith}
 use lib.Dec.{eqb}
 use lib.IntN.{ℤ}
-use lib.ListN.{drop, length, length-append, length-drop, length-map}
+use lib.ListN.{drop, length, length-append, length-map}
 use lib.Seq.{drop-append-seam, drop-drop}
 use borrow.Author.Tests.{ne-eqb}
 use Rattle.answers.specs.AnswerLaws.{bound, not-refused, same-good}

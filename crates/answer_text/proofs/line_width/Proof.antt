@@ -1,5 +1,4 @@
 -- `answer_text::line_width` meets its contract: the digits of both numbers, and ten bytes. Assumes nothing.
-use mathlib.Core.Path.{sym}
 use native.Mathlib.Omega.{arith}
 use borrow.Author.Needs.{needs}
 use Rattle.answer_text.specs.AnswerTextLaws.{refused-length}

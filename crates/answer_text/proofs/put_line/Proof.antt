@@ -1,7 +1,7 @@
 -- `answer_text::put_line` meets its contract: five texts, one behind the other. Assumes nothing.
-use mathlib.Core.List.{List, [], _++_, _∷_, append-assoc}
-use mathlib.Core.Path.{_≡_, subst, sym}
-use Prim.Native.Nat.{_+_, _≤_, ℕ}
+use mathlib.Core.List.{[], _++_, _∷_, append-assoc}
+use mathlib.Core.Path.{_≡_}
+use Prim.Native.Nat.{_+_, _≤_}
 use native.Mathlib.Omega.{arith}
 use lib.ListN.{length, length-append}
 use borrow.Author.Needs.{needs}

@@ -1,7 +1,6 @@
 -- `answer_text::put_refusal` meets its contract: nothing is written, or the whole line. Assumes nothing.
-use mathlib.Core.Path.{_≡_, ap₂, subst, sym}
+use mathlib.Core.Path.{_≡_, ap₂, sym}
 use native.Mathlib.Omega.{arith}
-use lib.ListN.{length}
 use borrow.Author.Needs.{needs}
 use Rattle.answer_text.specs.AnswerText.{refusedLine}
 use Rattle.answer_text.specs.AnswerTextLaws.{put-nothing, put-written}
