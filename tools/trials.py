@@ -3,13 +3,15 @@
 
   Opened          the names of the definitions behind the answers on one line, read from the crates' specs (no vectors); due again when a
                   definition is added
-  Refusals        for each refusal of each call the smallest vector
+  Refusals        for each refusal of each call the smallest case of the first file
   StudyReports, StudyLayout, StudyRefusals, CheckPasses, CheckRefusals
-                  every STEPth vector whose files are under 3,000 bytes together, spread over the kinds of answer
-  Accounts        the power account's numbers for every STEPth passing vector, worked out here a second time from document 01
+                  of each file of cases every tenth case whose files are under 3,000 bytes together, spread over the kinds of answer
+  Accounts        the power account's numbers for every tenth passing case of each file, worked out here a second time from documents 01 and 02;
+                  where the file has the account's numbers, they must be the same for every case
 
-Run it in the repository's root: python3 tools/trials.py VECTORS [STEP], then rt fmt and rt check trials. VECTORS is a folder with index.jsonl,
-one case to a line: name, call, feeder and report (files), buffer (null: a large one), and the expected answer. STEP is 10 if not given.
+Run it in the repository's root: python3 tools/trials.py CASES..., then rt fmt and rt check trials. Each of CASES, the base's first and then each
+request's in turn, is a file with one case to a line: name, call, feeder and report (files, looked for in its folder and then in the folder
+above), buffer (null: a large one), and the expected answer with one value.
 """
 import json, math, os, re, sys
 
@@ -22,40 +24,30 @@ REFUSALS = {10: 'Layout', 11: 'OutOfLimit', 20: 'UnknownFrom', 21: 'SecondTo', 2
             50: 'ReportLayout', 51: 'NameDiffers', 52: 'SourceDiffers', 53: 'CurrentDiffers', 54: 'VoltageOff', 55: 'TotalDiffers'}
 NO_VALUE = (50, 55)
 LARGE = 1000000
+STEP = 10
 
 
 # ---- the cases
-def read(name):
-    return open(os.path.join(VECTORS, name), 'rb').read() if name else b''
+def cases(path):
+    folder = os.path.dirname(path)
 
+    def read(name):
+        near = os.path.join(folder, name)
+        return open(near if os.path.exists(near) else os.path.join(folder, '..', name), 'rb').read()
 
-def cases():
-    for line in open(os.path.join(VECTORS, 'index.jsonl')):
+    for line in open(path):
         case = json.loads(line)
-        case['f'], case['r'] = read(case['feeder']), read(case['report'])
+        expected = case['expected']
+        case['f'], case['r'] = read(case['feeder']), read(case['report']) if case.get('report') else b''
+        case['written'] = read(expected['file']) if expected['answer'] == 'report' else b''
         case['size'] = len(case['f']) + len(case['r'])
-        case['kind'] = (case['call'], case['expected']['answer'], case['expected'].get('number', 0))
+        case['kind'] = (case['call'], expected['answer'], expected.get('number', 0))
         if case['size'] < 3000 and case['kind'][2] != 9:
             yield case
 
 
 def tables(data):
     return [[row.split(',') for row in table.split('\n')[1:] if row] for table in data.decode().split('\n\n')]
-
-
-# The line that is returned: the least of those that document 01 allows; for 54 the first that is fed through no other of them.
-def value(case):
-    values = sorted(case['expected']['values'])
-    if case['kind'][2] == 54:
-        branches = tables(case['f'])[1]
-        line = {b[1]: k + 3 for k, b in enumerate(branches)}
-        above = {line[b[1]]: line.get(b[0], 2) for b in branches}
-
-        def below_other(n):
-            n = above.get(n)
-            return n is not None and (n in values or below_other(n))
-        values = [n for n in values if not below_other(n)]
-    return values[0]
 
 
 # ---- a case as a theorem
@@ -66,22 +58,24 @@ def text(data):
 
 def theorem(name, case):
     call, answer, number = case['kind']
-    length = LARGE if case['buffer'] is None else case['buffer']
+    length = LARGE if case.get('buffer') is None else case['buffer']
     if answer == 'report':
-        report = read(case['expected']['file'])
+        report = case['written']
         sweeps = tables(report)[2][0][0]
         said = f"fitted {text(case['f'])} {length} ≡ good (record {{ text = {text(report)[1:-1]}; sweeps = {sweeps} }})"
     elif answer == 'pass':
         said = f"checkOf {text(case['f'])} {text(case['r'])} ≡ Pass"
     else:
-        refusal = REFUSALS[number] if number in NO_VALUE else f'({REFUSALS[number]} {value(case)})'
+        value, = case['expected']['values']
+        refusal = REFUSALS[number] if number in NO_VALUE else f'({REFUSALS[number]} {value})'
         said = (f"studyOf {text(case['f'])} {length} ≡ NoReport {refusal}" if call == 'study' else
                 f"checkOf {text(case['f'])} {text(case['r'])} ≡ Fail {refusal}")
     return proved(name, case, said)
 
 
 def proved(name, case, said):
-    return f"\n-- {case['name']}\n{name} : {said}\nunfolding opened\n{name} = refl\n"
+    about = f"{case['request']}, {case['name']}" if 'request' in case else case['name']
+    return f"\n-- {about}\n{name} : {said}\nunfolding opened\n{name} = refl\n"
 
 
 USES = [('mathlib.Core.Path', '_≡_ refl'), ('lib.IntN', 'pos negsuc'), ('Rattle.answers.specs.Answers', 'good'),
@@ -154,6 +148,10 @@ def pairs(fields):
     return list(zip(n[::2], n[1::2]))
 
 
+# The signs that A, B and C have in a load's voltage, by the word of its phase.
+SIGNS = {'A': (1, 0, 0), 'B': (0, 1, 0), 'C': (0, 0, 1), 'AB': (1, -1, 0), 'BC': (0, 1, -1), 'CA': (-1, 0, 1)}
+
+
 def account(feeder, report):
     (source,), branches, loads = tables(feeder)
     nodes, flows, (totals,) = tables(report)
@@ -161,11 +159,12 @@ def account(feeder, report):
     voltage = {n[0]: pairs(n[1:]) for n in nodes}
     sums, allowed = [], 0
     for node, phase, kind, vn, p, q in loads:
-        u, s, vn = voltage[node]['ABC'.index(phase)], (int(p) * 100000, int(q) * 100000), int(vn)
+        u = tuple(sum(sign * v[k] for sign, v in zip(SIGNS[phase], voltage[node])) for k in (0, 1))
+        s, vn = (int(p) * 100000, int(q) * 100000), int(vn)
         square = u[0] ** 2 + u[1] ** 2
         w = {'P': square, 'I': math.isqrt(square) * vn, 'Z': vn * vn}[kind]
         sums.append(s if kind == 'P' else rnd((s[0] * square, s[1] * square), w))
-        allowed += 2 * tol * size(rnd(times(conj(s), u), w)) + size(u) + 1
+        allowed += 2 * len(phase) * tol * size(rnd(times(conj(s), u), w)) + size(u) + 1
     for b, flow in zip(branches, flows):
         phases, kind, current = ['ABC'.index(x) for x in b[2]], b[3], pairs(flow[2:8])
         v, i = (sum(size(x[k]) for k in phases) for x in (voltage[b[0]], current))
@@ -188,15 +187,15 @@ def account(feeder, report):
     return differs, allowed
 
 
-def account_theorem(case):
+def account_theorem(name, case):
     differs, allowed = account(case['f'], case['r'])
     real, reactive = (f'pos {n}' if n >= 0 else f'negsuc {-n - 1}' for n in differs)
     numbers = f'record {{ differs = record {{ re = {real}; im = {reactive} }}; allowed = {allowed} }}'
-    return proved('a' + case['name'][:5], case, f"accountOf {text(case['f'])} {text(case['r'])} ≡ good ({numbers})")
+    return proved(name, case, f"accountOf {text(case['f'])} {text(case['r'])} ≡ good ({numbers})")
 
 
 # ---- the modules
-# Of each refusal the smallest vector. Where the check has none, a feeder that is refused before any report is read, with an empty report.
+# Of each refusal the smallest of these cases. Where the check has none, a feeder that is refused before any report is read, with an empty report.
 def one_of_each(ordered):
     smallest = {}
     for case in sorted(ordered, key=lambda c: c['size']):
@@ -211,22 +210,33 @@ def one_of_each(ordered):
 
 def main():
     opened()
-    ordered = sorted(cases(), key=lambda c: c['kind'])
-    module('Refusals', 'One trial for each refusal of each call, the smallest vector there is; 9 is in TooLong.', one_of_each(ordered))
-    chosen = ordered[STEP // 2::STEP]
+    files = [sorted(cases(path), key=lambda c: c['kind']) for path in sys.argv[1:]]
+    answered = [[c for c in ordered if c['call'] != 'account'] for ordered in files]
+    module('Refusals', "One trial for each refusal of each call, the smallest of the base's cases; 9 is in TooLong.", one_of_each(answered[0]))
+    chosen = [(number, c) for number, ordered in enumerate(answered) for c in ordered[STEP // 2::STEP]]
+
+    def named(letter, number, case):
+        return letter + (f'{number}-' if number else '') + case['name'][:5]
 
     def vectors(name, about, wanted):
-        module(name, f'Vectors: {about}.', [theorem('v' + c['name'][:5], c) for c in chosen if wanted(*c['kind'])])
+        module(name, f'Vectors: {about}.', [theorem(named('v', number, c), c) for number, c in chosen if wanted(*c['kind'])])
     vectors('StudyReports', 'feeders that the study reports on', lambda call, answer, n: answer == 'report')
     vectors('StudyLayout', 'feeders whose layout the study refuses', lambda call, answer, n: call == 'study' and n == 10)
     vectors('StudyRefusals', "the study's other refusals", lambda call, answer, n: call == 'study' and n > 10)
     vectors('CheckPasses', 'reports that the check passes', lambda call, answer, n: answer == 'pass')
     vectors('CheckRefusals', 'feeders and reports that the check refuses', lambda call, answer, n: call == 'check' and answer == 'refuse')
-    passing = [c for c in ordered if c['kind'][1] == 'pass']
-    module('Accounts', 'Power accounts of reports that pass: the difference, real and reactive, and the allowance.', map(account_theorem, passing[::STEP]))
+
+    known = [c for ordered in files for c in ordered if c['call'] == 'account']
+    for case in known:
+        expected, (differs, allowed) = case['expected'], account(case['f'], case['r'])
+        assert [abs(n) for n in differs] + [allowed] == [expected[k] for k in ('p', 'q', 'allowance')], case['name']
+    print(f'{len(known)} accounts as the files have them')
+    accounts = []
+    for number, ordered in enumerate(files):
+        accounts += [account_theorem(named('a', number, c), c) for c in [c for c in ordered if c['kind'][1] == 'pass'][::STEP]]
+    module('Accounts', 'Power accounts of reports that pass: the difference, real and reactive, and the allowance.', accounts)
 
 
 if len(sys.argv) < 2:
     sys.exit(__doc__)
-VECTORS, STEP = sys.argv[1], int(sys.argv[2]) if len(sys.argv) > 2 else 10
 main()

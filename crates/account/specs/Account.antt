@@ -7,7 +7,7 @@ use lib.IntN.{natAbs, pos, ℤ}
 use lib.ListN.{getD}
 use Rattle.answers.specs.Answers.{good}
 use Rattle.equations.specs.Equations.{at, loadCurrent, rated, voltageOn, weight, zOf, zero3}
-use Rattle.feeder.specs.Feeder.{Feeder, abc, branchAt, has, parent, reading, rowsOf}
+use Rattle.feeder.specs.Feeder.{Feeder, abc, branchAt, delta, has, parent, reading, rowsOf}
 use Rattle.feeder.specs.declared.Device.{Device}
 use Rattle.feeder.specs.declared.Device.the-variants.{Line, Regulator, Transformer}
 use Rattle.feeder.specs.declared.Load.{Load}
@@ -40,9 +40,9 @@ exactLoss (Transformer x) i = rndPair (csum (λ p. (at (x .z) p ·c at i p) ·* 
 unfoldable pub accounted : Feeder → Reported → Pair
 accounted f r = csum (rating (reportedVoltages r)) (f .loads) +c csum (λ k. exactLoss (branchAt f k .device) (getD (reportedCurrents r) k zero3)) (rowsOf f)
 
--- the table of demand 3. "load row: 2·tol·|I| + |V| + 1"
+-- the table of demand 3. "load row: 2·tol·|I| + |V| + 1"; 02, of AB, BC and CA: "such a row is allowed 4·tol·|I| + |V| + 1, with V the difference"
 unfoldable pub loadAllowance : ℕ → List Three → Load → ℕ
-loadAllowance tol v l = 2 * tol * abs (loadCurrent v l) + abs (voltageOn l v) + 1
+loadAllowance tol v l = cond (delta (l .phase)) 4 2 * tol * abs (loadCurrent v l) + abs (voltageOn l v) + 1
 
 -- "each summed over its phases"
 unfoldable pub over : Phases → (Phase → ℕ) → ℕ

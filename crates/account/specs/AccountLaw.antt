@@ -11,10 +11,10 @@ use Rattle.account.specs.Account.{accounted, allowance, branchAllowance,
 use Rattle.account.specs.Powers.{Part, part, part-add, part-sub, part-sum, power-add-right, power-cond, power-laws, power-part, power-sum-right, powerOf}
 use Rattle.account.specs.RowBounds.{branch-row-near, given, load-row-near}
 use Rattle.account.specs.Sums.{exchange, first-node, near-sum, sum, sum-add, sum-cong, sum-eq, sum-sub, sum-swap}
-use Rattle.equations.specs.Equations.{at, farVoltage, loadCurrent, mix, nearCurrent, phaseSigns, power, signAt, voltageOn, weight, zero3}
+use Rattle.equations.specs.Equations.{at, farVoltage, loadCurrent, mix, nearCurrent, power, signAt, voltageOn, weight, zero3}
 use Rattle.equations.specs.Meets.{at-taken, takenAt}
 use Rattle.equations.specs.ThreeLaws.{Close3}
-use Rattle.feeder.specs.Feeder.{Feeder, abc, branchAt, has, parent, rowCount, rowsOf}
+use Rattle.feeder.specs.Feeder.{Feeder, abc, branchAt, has, parent, phaseSigns, rowCount, rowsOf}
 use Rattle.feeder.specs.RowFacts.{Sized}
 use Rattle.feeder.specs.declared.Load.{Load}
 use Rattle.feeder.specs.declared.Phase.{Phase}

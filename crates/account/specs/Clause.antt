@@ -14,8 +14,8 @@ use Rattle.feeder.specs.Feeder.{Feeder, reading}
 use Rattle.feeder.specs.declared.Connection.the-variants.{Wye}
 use Rattle.feeder.specs.declared.Device.the-variants.{Line, Regulator, Transformer}
 use Rattle.feeder.specs.declared.LoadKind.the-variants.{Power}
-use Rattle.feeder.specs.declared.Phase.the-variants.{A}
 use Rattle.feeder.specs.declared.Phases.{Phases}
+use Rattle.feeder.specs.declared.Terminals.the-variants.{AB, OnA}
 use Rattle.feeder.specs.declared.Three.{Three}
 use Rattle.integers.specs.Lists.{csum, nsum}
 use Rattle.integers.specs.Pairs.{0c, _+c_, _·*_, abs, rndPair, scaled, square}
@@ -63,6 +63,12 @@ by-hand-transformer = refl
 
 -- 2·tol·|I| + |V| + 1: 01's load takes 10014 mA at 7190.00 V, with tol 1
 by-hand-load : loadAllowance 1 (zero3 ∷ record { a = pair (pos 719000) (pos 0); b = 0c; c = 0c } ∷ [])
-    (record { node = 1; phase = A; kind = Power; vn = pos 720000; s = pair (pos 72000) (pos 0) }) ≡ 739029
+    (record { node = 1; phase = OnA; kind = Power; vn = pos 720000; s = pair (pos 72000) (pos 0) }) ≡ 739029
 unfolding loadAllowance abs loadCurrent currentAt voltageOn mix rated weight rndPair rnd near scaled square _·*_ _+c_ csum
 by-hand-load = refl
+
+-- 4·tol·|I| + |V| + 1 with V the difference: the same load between 3595.00 V and −3595.00 V
+by-hand-delta : loadAllowance 1 (zero3 ∷ record { a = pair (pos 359500) (pos 0); b = pair (negsuc 359499) (pos 0); c = 0c } ∷ [])
+    (record { node = 1; phase = AB; kind = Power; vn = pos 720000; s = pair (pos 72000) (pos 0) }) ≡ 759057
+unfolding loadAllowance abs loadCurrent currentAt voltageOn mix rated weight rndPair rnd near scaled square _·*_ _+c_ csum
+by-hand-delta = refl

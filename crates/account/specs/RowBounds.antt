@@ -9,10 +9,9 @@ use lib.ListN.{getD}
 use Rattle.account.specs.Account.{branchAllowance, exactLoss, loadAllowance, over, rating, ratingOf}
 use Rattle.account.specs.Powers.{NearPair, Part, part, part-rounded, part-sum, power-laws, power-near-left, power-near-right, power-sub-left, power-sum-left, power-zero-left, powerOf, reactive, real, rounded-near}
 use Rattle.account.specs.Sums.{near-sums, nsum-le, nsum-mul, sum, sum-add, sum-cong, sum-mul, sum-sub, sum-swap, sum-zero}
-use Rattle.equations.specs.Equations.{at, currentAt, dropOf, each, loadCurrent, masked, minus3, mix, phaseSigns, rated, rowAt, signAt, signTable, takenOf, tapDivisor, throughOf, voltageOn, weight, zOf, zero3}
+use Rattle.equations.specs.Equations.{at, currentAt, dropOf, each, loadCurrent, masked, minus3, mix, rated, rowAt, signAt, signTable, takenOf, tapDivisor, throughOf, voltageOn, weight, zOf, zero3}
 use Rattle.equations.specs.ThreeLaws.{Close3, at-each, at-masked, at-minus, at-zero, transposed}
-use Rattle.equations.specs.declared.Signs.{Signs}
-use Rattle.feeder.specs.Feeder.{abc, has}
+use Rattle.feeder.specs.Feeder.{abc, delta, has, phaseSigns}
 use Rattle.feeder.specs.RowFacts.{Sized}
 use Rattle.feeder.specs.declared.Device.{Device}
 use Rattle.feeder.specs.declared.Device.the-variants.{Line, Regulator, Transformer}
@@ -23,7 +22,10 @@ use Rattle.feeder.specs.declared.LoadKind.the-variants.{Current, Impedance, Pow
 use Rattle.feeder.specs.declared.Phase.{Phase}
 use Rattle.feeder.specs.declared.Phase.the-variants.{A, B, C}
 use Rattle.feeder.specs.declared.Phases.{Phases}
+use Rattle.feeder.specs.declared.Signs.{Signs}
 use Rattle.feeder.specs.declared.Taps.{Taps}
+use Rattle.feeder.specs.declared.Terminals.{Terminals}
+use Rattle.feeder.specs.declared.Terminals.the-variants.{AB, BC, CA, OnA, OnB, OnC}
 use Rattle.feeder.specs.declared.Three.{Three}
 use Rattle.feeder.specs.declared.Windings.{Windings}
 use Rattle.integers.specs.Bools.{clash}
@@ -59,22 +61,26 @@ load-near q Impedance vn u s p = load-rounded q u s _ p
 unfoldable pub turnsOf : Signs → ℕ
 turnsOf s = nsum (λ p. natAbs (signAt s p)) abc
 
-turns-phase : (k : Phase) → turnsOf (phaseSigns k) ≡ 1
+-- one, or two between two phases: twice as many are the tolerances that a load row is allowed
+turns-phase : (k : Terminals) → 2 * turnsOf (phaseSigns k) ≡ cond (delta k) 4 2
 unfolding turnsOf nsum
-turns-phase A = refl
-turns-phase B = refl
-turns-phase C = refl
+turns-phase OnA = refl
+turns-phase OnB = refl
+turns-phase OnC = refl
+turns-phase AB = refl
+turns-phase BC = refl
+turns-phase CA = refl
 
-mix-near : (tol : ℕ) (s : Signs) (u x : Three) → Close3 tol u x → NearPair (mix s u) (mix s x) (2 * tol * turnsOf s)
+mix-near : (tol : ℕ) (s : Signs) (u x : Three) → Close3 tol u x → NearPair (mix s u) (mix s x) (2 * turnsOf s * tol)
 unfolding mix turnsOf csum scaled sum _+c_
 mix-near tol s u x c = record { near-re = sizes (λ y. y .re) (λ p. c p .re); near-im = sizes (λ y. y .im) (λ p. c p .im) }
   where
     sizes : (z : Pair → ℤ) → ((p : Phase) → natAbs (z (at u p) -ℤ z (at x p)) ≤ tol)
-        → Near (sum (λ p. signAt s p *ℤ z (at u p)) abc) (sum (λ p. signAt s p *ℤ z (at x p)) abc) (2 * tol * nsum (λ p. natAbs (signAt s p)) abc)
+        → Near (sum (λ p. signAt s p *ℤ z (at u p)) abc) (sum (λ p. signAt s p *ℤ z (at x p)) abc) (2 * nsum (λ p. natAbs (signAt s p)) abc * tol)
     sizes z h = near-mono (near-sums {f = λ p. signAt s p *ℤ z (at u p)} {g = λ p. signAt s p *ℤ z (at x p)} abc (λ p. mul-near (signAt s p) {x = z (at u p)} {y = z (at x p)} (abs-near (h p))))
         (omega (arith, nsum-mul (2 * tol) (λ p. natAbs (signAt s p)) abc))
 
--- "load row: 2·tol·|I| + |V| + 1". v are the reported voltages, u others that are close at the load's node
+-- "load row: 2·tol·|I| + |V| + 1", or "4·tol·|I| + |V| + 1". v are the reported voltages, u others that are close at the load's node
 pub load-row-near : (q : Part) (tol : ℕ) (v u : List Three) (l : Load) → 0 < weight (l .kind) (l .vn) (voltageOn l v) → Close3 tol (getD u (l .node) zero3) (getD v (l .node) zero3)
     → Near (powerOf q (voltageOn l u) (loadCurrent v l)) (part q (rating v l)) (loadAllowance tol v l)
 unfolding loadAllowance loadCurrent currentAt rating voltageOn

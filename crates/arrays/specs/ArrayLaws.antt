@@ -16,8 +16,8 @@ use Rattle.feeder.specs.declared.Load.{Load}
 use Rattle.feeder.specs.declared.LoadKind.{LoadKind}
 use Rattle.feeder.specs.declared.LoadKind.the-variants.{Current, Impedance, Power}
 use Rattle.feeder.specs.declared.LoadRow.{LoadRow}
-use Rattle.feeder.specs.declared.Phase.{Phase}
-use Rattle.feeder.specs.declared.Phase.the-variants.{A, B, C}
+use Rattle.feeder.specs.declared.Terminals.{Terminals}
+use Rattle.feeder.specs.declared.Terminals.the-variants.{AB, BC, CA, OnA, OnB, OnC}
 use Rattle.integers.specs.Pairs.{0c, inside}
 
 -- ---- what a place holds: an absent row holds zeros
@@ -67,11 +67,14 @@ kind-back R = refl
 kind-back Y = refl
 kind-back D = refl
 
-phase-back : (p : Phase) → phaseOf (phaseNumber p) ≡ p
+pub phase-back : (p : Terminals) → phaseOf (phaseNumber p) ≡ p
 unfolding phaseOf phaseNumber inside
-phase-back A = refl
-phase-back B = refl
-phase-back C = refl
+phase-back OnA = refl
+phase-back OnB = refl
+phase-back OnC = refl
+phase-back AB = refl
+phase-back BC = refl
+phase-back CA = refl
 
 load-kind-back : (k : LoadKind) → loadKindOf (loadKindNumber k) ≡ k
 unfolding loadKindOf loadKindNumber inside

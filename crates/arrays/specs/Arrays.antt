@@ -17,9 +17,9 @@ use Rattle.feeder.specs.declared.LoadKind.{LoadKind}
 use Rattle.feeder.specs.declared.LoadKind.the-variants.{Current, Impedance, Power}
 use Rattle.feeder.specs.declared.LoadRow.{LoadRow}
 use Rattle.feeder.specs.declared.Network.{Network}
-use Rattle.feeder.specs.declared.Phase.{Phase}
-use Rattle.feeder.specs.declared.Phase.the-variants.{A, B, C}
 use Rattle.feeder.specs.declared.Phases.{Phases}
+use Rattle.feeder.specs.declared.Terminals.{Terminals}
+use Rattle.feeder.specs.declared.Terminals.the-variants.{AB, BC, CA, OnA, OnB, OnC}
 use Rattle.feeder.specs.declared.Three.{Three}
 use Rattle.integers.specs.Pairs.{0c, inside}
 use Rattle.integers.specs.declared.Pair.{Pair}
@@ -63,13 +63,16 @@ kindNumber R = pos 1
 kindNumber Y = pos 2
 kindNumber D = pos 3
 
-unfoldable pub phaseOf : ℤ → Phase
-phaseOf z = cond (inside 0 z) A (cond (inside 1 z) B C)
+unfoldable pub phaseOf : ℤ → Terminals
+phaseOf z = cond (inside 0 z) OnA (cond (inside 1 z) OnB (cond (inside 2 z) OnC (cond (inside 3 z) AB (cond (inside 4 z) BC CA))))
 
-unfoldable pub phaseNumber : Phase → ℤ
-phaseNumber A = pos 0
-phaseNumber B = pos 1
-phaseNumber C = pos 2
+unfoldable pub phaseNumber : Terminals → ℤ
+phaseNumber OnA = pos 0
+phaseNumber OnB = pos 1
+phaseNumber OnC = pos 2
+phaseNumber AB = pos 3
+phaseNumber BC = pos 4
+phaseNumber CA = pos 5
 
 unfoldable pub loadKindOf : ℤ → LoadKind
 loadKindOf z = cond (inside 0 z) Power (cond (inside 1 z) Current Impedance)

@@ -20,9 +20,9 @@ use feeder::Kind;
 use feeder::LineZ;
 use feeder::Load;
 use feeder::LoadKind;
-use feeder::Phase;
 use feeder::Phases;
 use feeder::Taps;
+use feeder::Terminals;
 use feeder::Three;
 use feeder::Windings;
 use integers::Pair;
@@ -287,26 +287,38 @@ pub fn phases_at(branches: &Branches, k: usize) -> Phases
 }
 
 // ---- loads
-fn phase_of(z: i64) -> Phase
+pub fn phase_of(z: i64) -> Terminals
     ensures { λ r. ⌜ r ≡ phaseOf z ⌝ }
 {
     if whole::inside(z, 0) {
-        return Phase::A;
+        return Terminals::OnA;
     }
     if whole::inside(z, 1) {
-        return Phase::B;
+        return Terminals::OnB;
     }
-    Phase::C
+    if whole::inside(z, 2) {
+        return Terminals::OnC;
+    }
+    if whole::inside(z, 3) {
+        return Terminals::AB;
+    }
+    if whole::inside(z, 4) {
+        return Terminals::BC;
+    }
+    Terminals::CA
 }
 
-pub fn phase_number(phase: Phase) -> i64
+pub fn phase_number(phase: Terminals) -> i64
     ensures value { λ r. ⌜ r ≡ phaseNumber phase ⌝ }
     ensures fits { λ r. ⌜ SFits w64 r ⌝ }
 {
     match phase {
-        Phase::A => 0,
-        Phase::B => 1,
-        Phase::C => 2,
+        Terminals::OnA => 0,
+        Terminals::OnB => 1,
+        Terminals::OnC => 2,
+        Terminals::AB => 3,
+        Terminals::BC => 4,
+        Terminals::CA => 5,
     }
 }
 

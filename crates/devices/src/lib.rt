@@ -7,15 +7,15 @@ ghost use Rattle.integers.specs.PairLaws.{Within};
 ghost use Rattle.integers.specs.Lists.{csum};
 ghost use Rattle.feeder.specs.Feeder.{abc};
 ghost use Rattle.equations.specs.Equations.{at, each, mix, rowAt, signTable, dropOf, throughOf, takenOf, farVoltage, nearCurrent, power};
-ghost use Rattle.equations.specs.Sizes.{Within3, SignsOk, MatrixOk};
+ghost use Rattle.equations.specs.Sizes.{Within3, MatrixOk};
 ghost use Rattle.equations.specs.Limits.{LineOk, TapsOk, WindingsOk, DeviceOk};
 use equations::Matrix;
 use equations::SignTable;
-use equations::Signs;
 use feeder::Branch;
 use feeder::Connection;
 use feeder::Device;
 use feeder::LineZ;
+use feeder::Signs;
 use feeder::Taps;
 use feeder::Three;
 use feeder::Windings;
@@ -100,18 +100,6 @@ fn regulated(t: Taps, x: Three) -> Three
 
 // ---- transformers
 
-// A row of signs times x.
-fn mix(s: Signs, x: Three) -> Pair
-    requires { ⌜ SignsOk s ⌝ }
-    requires { ⌜ Within3 2100000 x ⌝ }
-    ensures { λ r. ⌜ r ≡ mix s x ⌝ }
-{
-    let a = pairs::scale(s.a, x.a);
-    let b = pairs::scale(s.b, x.b);
-    let c = pairs::scale(s.c, x.c);
-    threes::total(Three { a: a, b: b, c: c })
-}
-
 // M / N times what the signs make of x.
 fn turned(s: Matrix, t: Windings, x: Three) -> Three
     requires { ⌜ MatrixOk s ⌝ }
@@ -121,9 +109,9 @@ fn turned(s: Matrix, t: Windings, x: Three) -> Three
 {
     let m = t.m;
     let d = whole::size(t.n);
-    let a = mix(s.a, x);
-    let b = mix(s.b, x);
-    let c = mix(s.c, x);
+    let a = threes::mix(s.a, x);
+    let b = threes::mix(s.b, x);
+    let c = threes::mix(s.c, x);
     let p = ratio(m, d, a);
     let q = ratio(m, d, b);
     let r = ratio(m, d, c);

@@ -1,13 +1,15 @@
-// A pair for each phase: sums, masks and tests.
+// A pair for each phase: sums, rows of signs, masks and tests.
 ghost use mathlib.Core.Path.{_≡_};
 ghost use mathlib.Core.Bool.{_&&_, cond};
 ghost use Prim.Native.Nat.{_^_};
-ghost use Rattle.integers.specs.Pairs.{0c, _+c_, within, close};
+ghost use Rattle.integers.specs.Pairs.{0c, _+c_, scaled, within, close};
+ghost use Rattle.integers.specs.PairLaws.{Within};
 ghost use Rattle.integers.specs.Lists.{all};
 ghost use Rattle.feeder.specs.Feeder.{abc};
-ghost use Rattle.equations.specs.Equations.{at, plus3, minus3, masked, beyond3};
-ghost use Rattle.equations.specs.Sizes.{Within3};
+ghost use Rattle.equations.specs.Equations.{at, beyond3, each, masked, minus3, mix, plus3, signAt};
+ghost use Rattle.equations.specs.Sizes.{SignsOk, Within3};
 use feeder::Phases;
+use feeder::Signs;
 use feeder::Three;
 use integers::Pair;
 use integers::pairs;
@@ -41,6 +43,30 @@ pub fn total(x: Three) -> Pair
 {
     let t = pairs::add(x.b, x.c);
     pairs::add(x.a, t)
+}
+
+// A row of signs times x: the sum of what each sign makes of its phase.
+pub fn mix(s: Signs, x: Three) -> Pair
+    requires { ⌜ SignsOk s ⌝ }
+    requires { ⌜ Within3 2100000 x ⌝ }
+    ensures { λ r. ⌜ r ≡ mix s x ⌝ }
+{
+    let a = pairs::scale(s.a, x.a);
+    let b = pairs::scale(s.b, x.b);
+    let c = pairs::scale(s.c, x.c);
+    total(Three { a: a, b: b, c: c })
+}
+
+// x on each phase as the row of signs has it there.
+pub fn spread(s: Signs, x: Pair) -> Three
+    requires { ⌜ SignsOk s ⌝ }
+    requires { ⌜ Within 2100000 x ⌝ }
+    ensures { λ r. ⌜ r ≡ each (λ p. scaled (signAt s p) x) ⌝ }
+{
+    let a = pairs::scale(s.a, x);
+    let b = pairs::scale(s.b, x);
+    let c = pairs::scale(s.c, x);
+    Three { a: a, b: b, c: c }
 }
 
 fn kept(on: bool, x: Pair) -> Pair

@@ -11,11 +11,11 @@ use Rattle.draws.specs.SumLaws.{any-next, atPlace, csum-next, csum-same,
 use Rattle.draws.specs.declared.Draws.{Draws}
 use Rattle.draws.specs.declared.Row.{Row}
 use Rattle.draws.specs.declared.State.the-variants.{Fine}
-use Rattle.equations.specs.Equations.{beyond, drawnPower, each, loadBeyond, loadCurrent, loadsAt, phaseSigns, plus3, signAt, sum3, voltageOn, zero3, zeroVoltage}
+use Rattle.equations.specs.Equations.{beyond, drawnPower, each, loadBeyond, loadCurrent, loadsAt, plus3, signAt, sum3, voltageOn, zero3, zeroVoltage}
 use Rattle.equations.specs.Limits.{drawn-within}
 use Rattle.equations.specs.Sizes.{Within3, beyond-false, spread-within, within-zero, within3-zero}
 use Rattle.equations.specs.SumSizes.{csum-within, sum3-within}
-use Rattle.feeder.specs.Feeder.{Feeder}
+use Rattle.feeder.specs.Feeder.{Feeder, phaseSigns}
 use Rattle.feeder.specs.Network.{loadArray, noLoad}
 use Rattle.feeder.specs.NetworkLaws.{getD-kept}
 use Rattle.feeder.specs.declared.Load.{Load}
@@ -36,7 +36,7 @@ rowDrawn v l = rowOf (drawnBy l (voltageOn l v))
 abbrev pub drawnCurrent : List Three → Load → Pair
 drawnCurrent v l = rowDrawn v l .current
 
--- a current on the row's phase
+-- what counts of a row's current into each phase
 abbrev pub spreadOf : Load → Pair → Three
 spreadOf l i = each (λ p. scaled (signAt (phaseSigns (l .phase)) p) i)
 
@@ -137,7 +137,7 @@ summed-small v ls r own n h s =
           rw (s .own-is k) (sum3-within 300 2000000 p ls n (at-all (λ l. Within3 2000000 (p l)) ls (λ i d q. part k (getD ls i d))));
       drawn =
           let p : Load → Pair = powerOf v (drawnCurrent v) in
-          rw (s .drawn) (csum-within 300 8000000000000 p ls n (at-all (λ l. Within 8000000000000 (p l)) ls (λ i d q. power (getD ls i d))));
+          rw (s .drawn) (csum-within 300 16000000000000 p ls n (at-all (λ l. Within 16000000000000 (p l)) ls (λ i d q. power (getD ls i d))));
     }
   where
     part : (k : ℕ) (l : Load) → Within3 2000000 (partAt (drawnCurrent v) k l)
@@ -145,7 +145,7 @@ summed-small v ls r own n h s =
         cond-ind (eqb (l .node) k) (spreadOf l (drawnCurrent v l)) zero3 (Within3 2000000)
         (λ t. spread-within (l .phase) (row-within v l)) (λ t. within3-zero)
 
-    power : (l : Load) → Within 8000000000000 (powerOf v (drawnCurrent v) l)
+    power : (l : Load) → Within 16000000000000 (powerOf v (drawnCurrent v) l)
     power l = drawn-within (l .phase) (h (l .node)) (row-within v l)
 
 -- where no row is refused each adds its load current

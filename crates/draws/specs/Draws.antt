@@ -33,10 +33,10 @@ pub record DrawsOf (f : Feeder) (v : List Three) (r : Draws) (own : List Three) 
   pub own-is : r .state ≡ Fine → own ≡ tab (loadsAt f v) 0 201
   pub drawn : r .state ≡ Fine → r .drawn ≡ drawnPower f v
 
--- 300 rows of at most 2·10^6, and of at most 8·10^12
+-- 300 rows of at most 2·10^6, and of at most 1.6·10^13
 pub record SmallDraws (r : Draws) (own : List Three) : Type 0 where
   pub own-small : (k : ℕ) → Within3 600000000 (getD own k zero3)
-  pub drawn : Within 2400000000000000 (r .drawn)
+  pub drawn : Within 4800000000000000 (r .drawn)
 
 -- what the code needs of the rows and the voltages
 pub record LoadsOk (loads : List Load) (n : ℕ) (v : List Three) : Type 0 where

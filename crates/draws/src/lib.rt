@@ -1,9 +1,9 @@
 // What the load rows draw at given voltages. specs/Draws.antt says what that is.
 ghost use mathlib.Core.Path.{_≡_};
 ghost use lib.ListN.{length, replicate};
-ghost use Rattle.feeder.specs.Feeder.{Feeder};
+ghost use Rattle.feeder.specs.Feeder.{Feeder, phaseSigns};
 ghost use Rattle.feeder.specs.Network.{loadArray};
-ghost use Rattle.equations.specs.Equations.{mix, phaseSigns, zero3};
+ghost use Rattle.equations.specs.Equations.{mix, zero3};
 ghost use Rattle.equations.specs.Limits.{LoadOk};
 ghost use Rattle.equations.specs.Sizes.{Within3};
 ghost use Rattle.loads.specs.Loads.{drawnBy};

@@ -1,46 +1,53 @@
 -- A branch carries no current on a phase that it has not: what is taken at its node is 0 there. Assumes nothing.
-use mathlib.Core.Bool.{Bool, cond, false, true}
+use mathlib.Core.Bool.{Bool, cond, false, not, true}
 use mathlib.Core.List.{List}
 use mathlib.Core.Path.{_∙_, _≡_, ap₂, refl}
-use Prim.Native.Nat.{_+_, _<_, suc, ℕ}
+use Prim.Native.Nat.{_+_, _<_, _≤_, suc, zero, ℕ}
 use native.Mathlib.Omega.{arith}
 use lib.Dec.{eqb}
-use lib.IntN.{pos, zero-*ℤ}
+use lib.IntN.{natAbs, negsuc, pos, zero-*ℤ, ℤ}
 use lib.ListN.{getD}
-use borrow.Author.Tests.{eqb-true}
+use borrow.Author.Tests.{eqb-true, leb-true, not-false}
 use Rattle.answers.specs.Answers.{good}
-use Rattle.equations.specs.Equations.{at, loadCurrent, nearCurrent, phaseSigns, signAt, zero3}
+use Rattle.equations.specs.Equations.{at, loadCurrent, nearCurrent, signAt, zero3}
 use Rattle.equations.specs.Meets.{at-taken, takenAt}
 use Rattle.equations.specs.ThreeLaws.{at-masked, csum-none}
-use Rattle.feeder.specs.Feeder.{Feeder, branchAt, has, parent, phasesOf, reading, rowCount, rowsOf}
+use Rattle.feeder.specs.Feeder.{Feeder, branchAt, has, parent, phaseSigns, phasesOf, reading, rowCount, rowsOf, standsOn}
 use Rattle.feeder.specs.FeederLaws.{sound}
 use Rattle.feeder.specs.RowFacts.{OfLoad, branch-facts, load-facts}
 use Rattle.feeder.specs.declared.Load.{Load}
 use Rattle.feeder.specs.declared.Phase.{Phase}
 use Rattle.feeder.specs.declared.Phase.the-variants.{A, B, C}
-use Rattle.feeder.specs.declared.Phases.{Phases}
+use Rattle.feeder.specs.declared.Terminals.{Terminals}
 use Rattle.feeder.specs.declared.Three.{Three}
 use Rattle.integers.specs.Bools.{clash}
 use Rattle.integers.specs.ListLaws.{all-count, all-map}
 use Rattle.integers.specs.PairLaws.{+c-idr, pair-eq}
-use Rattle.integers.specs.Pairs.{0c, _+c_, scaled}
+use Rattle.integers.specs.Pairs.{0c, _+c_, inside, scaled}
 use Rattle.integers.specs.declared.Pair.{Pair}
 
 scaled-none : (x : Pair) → scaled (pos 0) x ≡ 0c
 unfolding scaled
 scaled-none x = pair-eq (zero-*ℤ (x .re)) (zero-*ℤ (x .im))
 
--- a load on phase k takes nothing from a phase that its node has not
-sign-off : (f : Phases) (k p : Phase) (x : Pair) → has f k ≡ true → has f p ≡ false → scaled (signAt (phaseSigns k) p) x ≡ 0c
-sign-off f A A x h n = clash (f .a) h n
-sign-off f A B x h n = scaled-none x
-sign-off f A C x h n = scaled-none x
-sign-off f B A x h n = scaled-none x
-sign-off f B B x h n = clash (f .b) h n
-sign-off f B C x h n = scaled-none x
-sign-off f C A x h n = scaled-none x
-sign-off f C B x h n = scaled-none x
-sign-off f C C x h n = clash (f .c) h n
+-- a load takes nothing from a phase that its node has not: it stands on the phases whose sign is not 0, and these its node has
+sign-none : (z : ℤ) (x : Pair) → not (inside 0 z) ≡ false → scaled z x ≡ 0c
+unfolding inside
+sign-none z x n = go z (leb-true _ _ (not-false _ n))
+  where
+    go : (z : ℤ) → natAbs z ≤ 0 → scaled z x ≡ 0c
+    go (pos zero) h = scaled-none x
+    go (pos (suc k)) h = absurd (omega arith)
+    go (negsuc k) h = absurd (omega arith)
+
+sign-off : (t : Terminals) (p : Phase) (x : Pair) → has (standsOn t) p ≡ false → scaled (signAt (phaseSigns t) p) x ≡ 0c
+sign-off t A x n = sign-none (phaseSigns t .a) x n
+sign-off t B x n = sign-none (phaseSigns t .b) x n
+sign-off t C x n = sign-none (phaseSigns t .c) x n
+
+not-there : (c d : Bool) → (c ≡ true → d ≡ true) → d ≡ false → c ≡ false
+not-there true d h n = clash d (h refl) n
+not-there false d h n = refl
 
 -- what counts only at one node is none where it is none at that node
 only-there : (n m : ℕ) (x : Pair) → (n ≡ m → x ≡ 0c) → cond (eqb n m) x 0c ≡ 0c
@@ -56,7 +63,7 @@ masked-off c x e = rw e
 module _ (s : List ℕ) (f : Feeder) (e : reading s ≡ good f) (v i : List Three) (j : ℕ) (p : Phase) (n : has (branchAt f (suc j) .phases) p ≡ false) where
   load-none : (l : Load) → OfLoad f l → cond (eqb (l .node) (suc j)) (scaled (signAt (phaseSigns (l .phase)) p) (loadCurrent v l)) 0c ≡ 0c
   unfolding phasesOf
-  load-none l o = only-there (l .node) (suc j) _ (λ z. sign-off (branchAt f (suc j) .phases) (l .phase) p _ (rw z at (o .there)) n)
+  load-none l o = only-there (l .node) (suc j) _ (λ z. sign-off (l .phase) p _ (not-there _ (has (phasesOf f (l .node)) p) (o .there p) (rw z n)))
 
   branch-none : (k : ℕ) → k < rowCount f → cond (eqb (parent f (suc k)) (suc j)) (at (nearCurrent (branchAt f (suc k)) (getD i (suc k) zero3)) p) 0c ≡ 0c
   unfolding phasesOf nearCurrent

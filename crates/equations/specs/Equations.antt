@@ -24,8 +24,8 @@ use Rattle.feeder.specs.declared.Branch.{Branch}
 use Rattle.feeder.specs.declared.LoadKind.{LoadKind}
 use Rattle.feeder.specs.declared.LoadKind.the-variants.{Power, Current, Impedance}
 use Rattle.feeder.specs.declared.Load.{Load}
-use Rattle.feeder.specs.Feeder.{Feeder, has, abc, branchAt, parent, rowCount, rowsOf}
-use Rattle.equations.specs.declared.Signs.{Signs}
+use Rattle.feeder.specs.declared.Signs.{Signs}
+use Rattle.feeder.specs.Feeder.{Feeder, has, abc, branchAt, parent, phaseSigns, rowCount, rowsOf, signs}
 use Rattle.equations.specs.declared.Matrix.{Matrix}
 use Rattle.equations.specs.declared.SignTable.{SignTable}
 
@@ -56,23 +56,14 @@ unfoldable pub masked : Phases → Three → Three
 masked f x = each (λ p. cond (has f p) (at x p) 0c)
 
 -- ---- rows of signs
-abbrev pub signs : ℤ → ℤ → ℤ → Signs
-signs a b c = record { a = a; b = b; c = c }
-
 abbrev pub signAt : Signs → Phase → ℤ
 signAt s A = s .a
 signAt s B = s .b
 signAt s C = s .c
 
--- what a row of signs makes of three voltages or currents. The signs of a load's phase pick the value of that phase (`mix-phase`, Sizes)
+-- what a row of signs makes of three voltages or currents. A load's signs give the value of its phase, or the difference of its two (`mix-phase`, Sizes)
 unfoldable pub mix : Signs → Three → Pair
 mix s x = csum (λ p. scaled (signAt s p) (at x p)) abc
-
--- a load row's phase as a row of signs: what of each phase's voltage stands at it, and of its current is taken there
-abbrev pub phaseSigns : Phase → Signs
-phaseSigns A = signs (pos 1) (pos 0) (pos 0)
-phaseSigns B = signs (pos 0) (pos 1) (pos 0)
-phaseSigns C = signs (pos 0) (pos 0) (pos 1)
 
 -- "The signs of both connections stand in one table: Y has A and d the unit matrix; D has A rows V_a−V_c, V_b−V_a, V_c−V_b and d rows I_a−I_b, I_b−I_c, I_c−I_a"
 abbrev pub signTable : Connection → SignTable

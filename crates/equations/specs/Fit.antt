@@ -1,5 +1,5 @@
 -- What 11 and 20 to 23 give of a feeder that is read, as the code needs it. Assumes nothing.
-use mathlib.Core.Bool.{true}
+use mathlib.Core.Bool.{Bool, cond, false, true}
 use mathlib.Core.List.{List, [], _∷_}
 use mathlib.Core.Path.{_≡_, subst}
 use Prim.Native.Nat.{_+_, _<_, _≤_, suc, zero, ℕ}
@@ -11,11 +11,11 @@ use lib.Signed.{leZ}
 use borrow.Author.Tests.{leb-true}
 use Rattle.answers.specs.Answers.{good}
 use Rattle.equations.specs.Equations.{at}
-use Rattle.equations.specs.Limits.{DeviceOk, LoadOk, WindingsOk, between-counted, counted-more}
+use Rattle.equations.specs.Limits.{Counted, DeviceOk, LoadOk, WindingsOk, between-counted, counted-more}
 use Rattle.equations.specs.Sizes.{Within3}
-use Rattle.feeder.specs.Feeder.{Feeder, above, between, branchAt, branchIn, columnOf, deviceOf, feederOf, inLimit, loadIn, loadOf, nodesOf, outOfLimit, parent, reading, rowCount, sourceIn, threeAt}
+use Rattle.feeder.specs.Feeder.{Feeder, above, between, branchAt, branchIn, columnOf, delta, deviceOf, feederOf, inLimit, loadIn, loadOf, nodesOf, outOfLimit, parent, reading, rowCount, sourceIn, threeAt, vnMost}
 use Rattle.feeder.specs.FeederLaws.{Sound, branch-is, node-reached, parent-known, row-count, rowOf, sound}
-use Rattle.feeder.specs.RowFacts.{branch-in, column-in, few-branches, few-loads, load-facts, load-in, node-in}
+use Rattle.feeder.specs.RowFacts.{branch-in, column-in, few-branches, few-loads, load-facts, load-in, load-node}
 use Rattle.feeder.specs.RowLaws.{held, or-none}
 use Rattle.feeder.specs.declared.BranchRow.{BranchRow}
 use Rattle.feeder.specs.declared.Connection.{Connection}
@@ -90,12 +90,16 @@ device-ok Y p e = windings Wye p (column Y p e 0 tt) (column Y p e 1 tt) (column
 device-ok D p e = windings Delta p (column D p e 0 tt) (column D p e 1 tt) (column D p e 2 tt) (column D p e 3 tt) (column D p e 4 tt) (column D p e 5 tt) (column D p e 6 tt) (column D p e 7 tt)
 
 -- ---- loads
+counted : (c : Bool) (z : ℤ) → between (pos 1) (pos (cond c 4000000 2000000)) z ≡ true → Counted 4000000 z
+counted true z e = between-counted 4000000 z e
+counted false z e = counted-more (between-counted 2000000 z e) tt
+
 load-is : (nodes : List ℕ) (l : LoadRow) → loadIn l ≡ true → LoadOk (loadOf nodes l)
 unfolding loadIn inside
 load-is nodes l e =
-    let h = both (between (pos 1) (pos 2000000) (l .vn)) _ e in
+    let h = both (between (pos 1) (vnMost (l .phase)) (l .vn)) _ e in
     let g = both (inside 3000000 (l .s .re)) _ (h .1) in
-    record { vn = counted-more (between-counted 2000000 (l .vn) (h .0)) tt; s = record { re = leb-true _ _ (g .0); im = leb-true _ _ (g .1) } }
+    record { vn = counted (delta (l .phase)) (l .vn) (h .0); s = record { re = leb-true _ _ (g .0); im = leb-true _ _ (g .1) } }
 
 -- ---- the source's row
 source-in : (p : List ℤ) → all (inside 2000000) (take 6 p) ≡ true → Within3 2000000 (threeAt p 1)
@@ -138,7 +142,7 @@ module _ (s : List ℕ) (f : Feeder) (w : Sound s f) where
       (all-image LoadOk (loadOf (nodesOf r)) (r .loads) (at-all (λ l. LoadOk (loadOf (nodesOf r) l)) (r .loads) (λ i d q. load-is (nodesOf r) (getD (r .loads) i d) (load-in s f w i q d))))
 
   load-nodes : All (λ l. l .node < suc (rowCount f)) (f .loads)
-  load-nodes = all-map (f .loads) (λ l o. node-in f (l .node) (l .phase) (o .there)) (load-facts s f w)
+  load-nodes = all-map (f .loads) (λ l o. load-node f l o) (load-facts s f w)
 
   sized : (Within3 2000000 (f .source)) × ((f .tol ≤ 1000) × ((1 ≤ f .limit) × ((f .limit ≤ 100) × ((rowCount f ≤ 200) × (length (f .loads) ≤ 300)))))
   unfolding sourceIn feederOf

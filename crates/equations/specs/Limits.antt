@@ -7,10 +7,9 @@ use native.Mathlib.Omega.{arith}
 use lib.Dec.{T, leb, leb→le, lit<, lit≤}
 use lib.IntN.{_-ℤ_, natAbs, negsuc, pos, ℤ}
 use lib.Signed.{_≤ℤ_, leZ, leZ-yes}
-use Rattle.equations.specs.Equations.{at, dropOf, farVoltage, mix, nearCurrent, phaseSigns, power, rated, takenOf, tapDivisor, throughOf, weight, zOf}
+use Rattle.equations.specs.Equations.{at, dropOf, farVoltage, mix, nearCurrent, power, rated, takenOf, tapDivisor, throughOf, weight, zOf}
 use Rattle.equations.specs.Sizes.{SignsOk, Within3, mix-phase-within, mix-within, power-within, row-ok, table-ok, within-csum, within3-at, within3-each, within3-masked, within3-minus, within3-more, within3-zero}
-use Rattle.equations.specs.declared.Signs.{Signs}
-use Rattle.feeder.specs.Feeder.{between}
+use Rattle.feeder.specs.Feeder.{between, phaseSigns}
 use Rattle.feeder.specs.declared.Branch.{Branch}
 use Rattle.feeder.specs.declared.Device.{Device}
 use Rattle.feeder.specs.declared.Device.the-variants.{Line, Regulator, Transformer}
@@ -20,7 +19,9 @@ use Rattle.feeder.specs.declared.LoadKind.{LoadKind}
 use Rattle.feeder.specs.declared.LoadKind.the-variants.{Current, Impedance, Power}
 use Rattle.feeder.specs.declared.Phase.{Phase}
 use Rattle.feeder.specs.declared.Phase.the-variants.{A, B, C}
+use Rattle.feeder.specs.declared.Signs.{Signs}
 use Rattle.feeder.specs.declared.Taps.{Taps}
+use Rattle.feeder.specs.declared.Terminals.{Terminals}
 use Rattle.feeder.specs.declared.Three.{Three}
 use Rattle.feeder.specs.declared.Windings.{Windings}
 use Rattle.integers.specs.Bools.{both, true-T}
@@ -78,7 +79,7 @@ DeviceOk (Line z) = LineOk z
 DeviceOk (Regulator t) = TapsOk t
 DeviceOk (Transformer x) = WindingsOk x
 
--- twice 01's limit of vn, as voltages between two phases would need
+-- vn is within the limit of a load between two phases
 pub record LoadOk (l : Load) : Type 0 where
   pub vn : Counted 4000000 (l .vn)
   pub s : Within 3000000 (l .s)
@@ -100,8 +101,8 @@ pub rated-within : {l : Load} → LoadOk l → Within 300000000000 (rated l)
 unfolding rated
 rated-within h = within-scaled {m = 100000} (pos 100000) (lit≤ tt) (h .s)
 
--- one load row's power: 300 of them are below 2.5·10^15
-pub drawn-within : (p : Phase) {v : Three} {i : Pair} → Within3 2000000 v → Within 2000000 i → Within 8000000000000 (mix (phaseSigns p) v ·* i)
+-- one load row's power: 300 of them are below 5·10^15
+pub drawn-within : (p : Terminals) {v : Three} {i : Pair} → Within3 2000000 v → Within 2000000 i → Within 16000000000000 (mix (phaseSigns p) v ·* i)
 drawn-within p h k = within-mul-conj (mix-phase-within p h) k
 
 -- ---- devices

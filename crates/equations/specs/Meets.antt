@@ -8,10 +8,10 @@ use lib.Dec.{eqb}
 use lib.ListN.{getD}
 use Rattle.answers.specs.Answers.{good}
 use Rattle.equations.specs.Downward.{downward-node, downward-source}
-use Rattle.equations.specs.Equations.{at, currents, downward, farVoltage, loadCurrent, loadsAt, nearCurrent, phaseSigns, plus3, signAt, sum3, upward, voltages, zero3}
+use Rattle.equations.specs.Equations.{at, currents, downward, farVoltage, loadCurrent, loadsAt, nearCurrent, plus3, signAt, sum3, upward, voltages, zero3}
 use Rattle.equations.specs.ThreeLaws.{at-cond, at-each, at-plus, at-sum, csum-cong, sum3-cong}
 use Rattle.equations.specs.Upward.{kirchhoff}
-use Rattle.feeder.specs.Feeder.{Feeder, branchAt, parent, reading, rowCount, rowsOf}
+use Rattle.feeder.specs.Feeder.{Feeder, branchAt, parent, phaseSigns, reading, rowCount, rowsOf}
 use Rattle.feeder.specs.FeederLaws.{Sound, all-reached, one-reached, parent-known, sound}
 use Rattle.feeder.specs.declared.Phase.{Phase}
 use Rattle.feeder.specs.declared.Three.{Three}

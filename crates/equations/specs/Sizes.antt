@@ -5,23 +5,26 @@ use mathlib.Core.Path.{_∙_, _≡_, ap, refl, sym}
 use Prim.Native.Nat.{_*_, _+_, _≤_, suc, ℕ}
 use native.Mathlib.Omega.{arith}
 use lib.Dec.{T, leb, lit≤}
-use lib.IntN.{_*ℤ_, _-ℤ_, natAbs, negsuc, negℤ, pos, zero-*ℤ, ℤ}
-use Rattle.equations.specs.Equations.{at, beyond, beyond3, each, masked, minus3, mix, phaseSigns, plus3, power, rowAt, signAt, signTable, signs, zOf, zero3}
+use lib.IntN.{+ℤ-idl, _*ℤ_, _-ℤ_, natAbs, negsuc, negℤ, pos, zero-*ℤ, ℤ}
+use Rattle.equations.specs.Equations.{at, beyond, beyond3, each, masked, minus3, mix, plus3, power, rowAt, signAt, signTable, zOf, zero3}
 use Rattle.equations.specs.declared.Matrix.{Matrix}
-use Rattle.equations.specs.declared.Signs.{Signs}
-use Rattle.feeder.specs.Feeder.{abc, has}
+use Rattle.feeder.specs.Feeder.{abc, has, phaseSigns, signs}
 use Rattle.feeder.specs.declared.Connection.{Connection}
 use Rattle.feeder.specs.declared.Connection.the-variants.{Delta, Wye}
 use Rattle.feeder.specs.declared.LineZ.{LineZ}
 use Rattle.feeder.specs.declared.Phase.{Phase}
 use Rattle.feeder.specs.declared.Phase.the-variants.{A, B, C}
 use Rattle.feeder.specs.declared.Phases.{Phases}
+use Rattle.feeder.specs.declared.Signs.{Signs}
+use Rattle.feeder.specs.declared.Terminals.{Terminals}
+use Rattle.feeder.specs.declared.Terminals.the-variants.{AB, BC, CA, OnA, OnB, OnC}
 use Rattle.feeder.specs.declared.Three.{Three}
 use Rattle.integers.specs.Bools.{clash, cond-ind}
 use Rattle.integers.specs.ListLaws.{all-true, true-all}
 use Rattle.integers.specs.Lists.{all, any, csum, All}
-use Rattle.integers.specs.PairLaws.{+c-idl, +c-idr, Close, Within, close-true, pair-eq, true-close, true-within, within-add, within-le, within-more, within-mul-conj, within-scaled, within-sub, within-true}
-use Rattle.integers.specs.Pairs.{0c, _+c_, _·*_, _·c_, close, rndPair, scaled, within}
+use Rattle.integers.specs.PairLaws.{+c-comm, +c-idl, +c-idr, Close, Within, close-true, pair-eq, true-close, true-within, within-add, within-le, within-more, within-mul-conj, within-scaled, within-sub, within-true}
+use Rattle.integers.specs.Pairs.{0c, _+c_, _-c_, _·*_, _·c_, close, rndPair, scaled, within}
+use Rattle.integers.specs.Ring.{neg-mulℤ, ring}
 use Rattle.integers.specs.Whole.{abs-parts, add-parts, neg-neg, one-part, pos-neg}
 use Rattle.integers.specs.declared.Pair.{Pair}
 
@@ -139,7 +142,7 @@ pub table-ok : (c : Connection) → MatrixOk (signTable c .voltage) × MatrixOk 
 table-ok Wye = (record { a = small tt tt tt; b = small tt tt tt; c = small tt tt tt }, record { a = small tt tt tt; b = small tt tt tt; c = small tt tt tt })
 table-ok Delta = (record { a = small tt tt tt; b = small tt tt tt; c = small tt tt tt }, record { a = small tt tt tt; b = small tt tt tt; c = small tt tt tt })
 
--- a load row's signs choose its phase, for the voltage and for the current
+-- ---- what a load's row of signs makes of a voltage and of a current
 one-times : (a : ℤ) → pos 1 *ℤ a ≡ a
 one-times (pos n) = ap pos (omega arith)
 one-times (negsuc n) = ap (λ (k : ℕ). negℤ (pos k)) (let e : 1 * suc n ≡ suc n = omega arith in e)
@@ -152,34 +155,85 @@ none-of : (x : Pair) → scaled (pos 0) x ≡ 0c
 unfolding scaled
 none-of x = pair-eq (zero-*ℤ (x .re)) (zero-*ℤ (x .im))
 
-pub mix-phase : (p : Phase) (x : Three) → mix (phaseSigns p) x ≡ at x p
-unfolding mix
-mix-phase A x = csum-abc (λ p. scaled (signAt (phaseSigns A) p) (at x p)) ∙ (λ i. one-of (x .a) i +c (none-of (x .b) i +c none-of (x .c) i)) ∙ simp (+c-idl, +c-idr)
-mix-phase B x = csum-abc (λ p. scaled (signAt (phaseSigns B) p) (at x p)) ∙ (λ i. none-of (x .a) i +c (one-of (x .b) i +c none-of (x .c) i)) ∙ simp (+c-idl, +c-idr)
-mix-phase C x = csum-abc (λ p. scaled (signAt (phaseSigns C) p) (at x p)) ∙ (λ i. none-of (x .a) i +c (none-of (x .b) i +c one-of (x .c) i)) ∙ simp (+c-idl, +c-idr)
-
-pub mix-phase-within : {m : ℕ} (p : Phase) {x : Three} → Within3 m x → Within m (mix (phaseSigns p) x)
-mix-phase-within p {x} h = rw (mix-phase p x) (within3-at h p)
-
--- what a phase takes of a current, and the others do not
-abbrev pub only : Phase → Pair → Three
-only A i = record { a = i; b = 0c; c = 0c }
-only B i = record { a = 0c; b = i; c = 0c }
-only C i = record { a = 0c; b = 0c; c = i }
-
-pub spread-phase : (p : Phase) (i : Pair) → each (λ j. scaled (signAt (phaseSigns p) j) i) ≡ only p i
-unfolding each
-spread-phase A x = λ i. record { a = one-of x i; b = none-of x i; c = none-of x i }
-spread-phase B x = λ i. record { a = none-of x i; b = one-of x i; c = none-of x i }
-spread-phase C x = λ i. record { a = none-of x i; b = none-of x i; c = one-of x i }
-
-pub spread-within : {m : ℕ} (p : Phase) {i : Pair} → Within m i → Within3 m (each (λ j. scaled (signAt (phaseSigns p) j) i))
-spread-within {m} p {i} h = rw (spread-phase p i) (go p)
+minus-of : (x : Pair) → scaled (negsuc 0) x ≡ 0c -c x
+unfolding scaled _-c_
+minus-of x = pair-eq (part (x .re)) (part (x .im))
   where
-    go : (p : Phase) → Within3 m (only p i)
-    go A = record { a = h; b = within-zero; c = within-zero }
-    go B = record { a = within-zero; b = h; c = within-zero }
-    go C = record { a = within-zero; b = within-zero; c = h }
+    part : (a : ℤ) → negsuc 0 *ℤ a ≡ pos 0 -ℤ a
+    part a = neg-mulℤ (pos 1) a ∙ ap negℤ (one-times a) ∙ sym (+ℤ-idl (negℤ a))
+
+-- a sum with a difference from 0 in it, on either side
+plus-minus : (x y : Pair) → x +c (0c -c y) ≡ x -c y
+unfolding _+c_ _-c_
+plus-minus x y = pair-eq (simp ring) (simp ring)
+
+minus-plus : (x y : Pair) → 0c -c y +c x ≡ x -c y
+minus-plus x y = +c-comm (0c -c y) x ∙ plus-minus x y
+
+-- the voltage at which a load stands: its phase's, or the first phase's minus the second's
+abbrev pub across : Terminals → Three → Pair
+across OnA x = x .a
+across OnB x = x .b
+across OnC x = x .c
+across AB x = x .a -c x .b
+across BC x = x .b -c x .c
+across CA x = x .c -c x .a
+
+pub mix-phase : (p : Terminals) (x : Three) → mix (phaseSigns p) x ≡ across p x
+unfolding mix
+mix-phase OnA x = csum-abc (λ p. scaled (signAt (phaseSigns OnA) p) (at x p)) ∙ (λ i. one-of (x .a) i +c (none-of (x .b) i +c none-of (x .c) i)) ∙ simp (+c-idl, +c-idr)
+mix-phase OnB x = csum-abc (λ p. scaled (signAt (phaseSigns OnB) p) (at x p)) ∙ (λ i. none-of (x .a) i +c (one-of (x .b) i +c none-of (x .c) i)) ∙ simp (+c-idl, +c-idr)
+mix-phase OnC x = csum-abc (λ p. scaled (signAt (phaseSigns OnC) p) (at x p)) ∙ (λ i. none-of (x .a) i +c (none-of (x .b) i +c one-of (x .c) i)) ∙ simp (+c-idl, +c-idr)
+mix-phase AB x = csum-abc (λ p. scaled (signAt (phaseSigns AB) p) (at x p)) ∙ (λ i. one-of (x .a) i +c (minus-of (x .b) i +c none-of (x .c) i)) ∙ simp (+c-idl, +c-idr) (plus-minus (x .a) (x .b))
+mix-phase BC x = csum-abc (λ p. scaled (signAt (phaseSigns BC) p) (at x p)) ∙ (λ i. none-of (x .a) i +c (one-of (x .b) i +c minus-of (x .c) i)) ∙ simp (+c-idl, +c-idr) (plus-minus (x .b) (x .c))
+mix-phase CA x = csum-abc (λ p. scaled (signAt (phaseSigns CA) p) (at x p)) ∙ (λ i. minus-of (x .a) i +c (none-of (x .b) i +c one-of (x .c) i)) ∙ simp (+c-idl, +c-idr) (minus-plus (x .c) (x .a))
+
+pub mix-phase-within : {m : ℕ} (p : Terminals) {x : Three} → Within3 m x → Within (2 * m) (mix (phaseSigns p) x)
+mix-phase-within {m} p {x} h = rw (mix-phase p x) (go p)
+  where
+    one : {y : Pair} → Within m y → Within (2 * m) y
+    one k = within-le (omega arith) k
+
+    two : {y z : Pair} → Within m y → Within m z → Within (2 * m) (y -c z)
+    two k l = within-le (omega arith) (within-sub k l)
+
+    go : (p : Terminals) → Within (2 * m) (across p x)
+    go OnA = one (h .a)
+    go OnB = one (h .b)
+    go OnC = one (h .c)
+    go AB = two (h .a) (h .b)
+    go BC = two (h .b) (h .c)
+    go CA = two (h .c) (h .a)
+
+-- what counts into each phase of a load's current: all of it, or all into the first and with the sign changed into the second
+abbrev pub into : Terminals → Pair → Three
+into OnA i = record { a = i; b = 0c; c = 0c }
+into OnB i = record { a = 0c; b = i; c = 0c }
+into OnC i = record { a = 0c; b = 0c; c = i }
+into AB i = record { a = i; b = 0c -c i; c = 0c }
+into BC i = record { a = 0c; b = i; c = 0c -c i }
+into CA i = record { a = 0c -c i; b = 0c; c = i }
+
+pub spread-phase : (p : Terminals) (i : Pair) → each (λ j. scaled (signAt (phaseSigns p) j) i) ≡ into p i
+unfolding each
+spread-phase OnA x = λ i. record { a = one-of x i; b = none-of x i; c = none-of x i }
+spread-phase OnB x = λ i. record { a = none-of x i; b = one-of x i; c = none-of x i }
+spread-phase OnC x = λ i. record { a = none-of x i; b = none-of x i; c = one-of x i }
+spread-phase AB x = λ i. record { a = one-of x i; b = minus-of x i; c = none-of x i }
+spread-phase BC x = λ i. record { a = none-of x i; b = one-of x i; c = minus-of x i }
+spread-phase CA x = λ i. record { a = minus-of x i; b = none-of x i; c = one-of x i }
+
+-- every sign of a load row is −1, 0 or 1
+pub phase-ok : (p : Terminals) → SignsOk (phaseSigns p)
+phase-ok OnA = small tt tt tt
+phase-ok OnB = small tt tt tt
+phase-ok OnC = small tt tt tt
+phase-ok AB = small tt tt tt
+phase-ok BC = small tt tt tt
+phase-ok CA = small tt tt tt
+
+pub spread-within : {m : ℕ} (p : Terminals) {i : Pair} → Within m i → Within3 m (each (λ j. scaled (signAt (phaseSigns p) j) i))
+spread-within {m} p {i} h = within3-each (λ j. let w = within-scaled (signAt (phaseSigns p) j) (sign-ok (phase-ok p) j) h in record { re = omega (arith, w .re); im = omega (arith, w .im) })
 
 -- ---- tests: what `true` says, and when the test says it
 -- a test on each phase, as the code makes it

@@ -1,11 +1,5 @@
-// The equations of document 01 that study and check both stand on. specs/Equations.antt says each of them.
-
-// What of each phase's voltage or current counts: -1, 0 or 1.
-pub struct Signs {
-    pub a: i64,
-    pub b: i64,
-    pub c: i64,
-}
+// The equations of documents 01 and 02 that study and check both stand on. specs/Equations.antt says each of them.
+use feeder::Signs;
 
 // A row of signs for each phase.
 pub struct Matrix {

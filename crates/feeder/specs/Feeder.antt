@@ -3,7 +3,7 @@ use mathlib.Core.Bool.{Bool, _&&_, cond, false, not, true}
 use mathlib.Core.List.{List, [], _∷_, map}
 use Prim.Native.Nat.{_+_, _-_, suc, zero, ℕ}
 use lib.Dec.{eqb, ltb}
-use lib.IntN.{natAbs, negℤ, pos, ℤ}
+use lib.IntN.{natAbs, negsuc, negℤ, pos, ℤ}
 use lib.ListN.{getD, length, take}
 use lib.Signed.{leZ}
 use Rattle.answers.specs.Answers.{Outcome, _>>=_, _>>_, good, refuseAt, refuseIf}
@@ -25,6 +25,9 @@ use Rattle.feeder.specs.declared.LoadRow.{LoadRow}
 use Rattle.feeder.specs.declared.Phase.{Phase}
 use Rattle.feeder.specs.declared.Phase.the-variants.{A, B, C}
 use Rattle.feeder.specs.declared.Phases.{Phases}
+use Rattle.feeder.specs.declared.Signs.{Signs}
+use Rattle.feeder.specs.declared.Terminals.{Terminals}
+use Rattle.feeder.specs.declared.Terminals.the-variants.{AB, BC, CA, OnA, OnB, OnC}
 use Rattle.feeder.specs.declared.Three.{Three}
 use Rattle.integers.specs.Lists.{all, count}
 use Rattle.integers.specs.Pairs.{0c, inside}
@@ -64,6 +67,33 @@ noPhases = phaseSet false false false
 -- all phases of f are among g's
 abbrev pub allOf : Phases → Phases → Bool
 allOf f g = all (λ p. cond (has f p) (has g p) true) abc
+
+-- ---- what a load stands between
+abbrev pub signs : ℤ → ℤ → ℤ → Signs
+signs a b c = record { a = a; b = b; c = c }
+
+-- its row of signs, one table for both: what of each phase's voltage stands at the load, and what of its current counts into each phase. 02, of AB, BC and CA:
+-- "Its voltage is the first phase's minus the second's. Its current counts into the first phase and, with the sign changed, into the second"
+abbrev pub phaseSigns : Terminals → Signs
+phaseSigns OnA = signs (pos 1) (pos 0) (pos 0)
+phaseSigns OnB = signs (pos 0) (pos 1) (pos 0)
+phaseSigns OnC = signs (pos 0) (pos 0) (pos 1)
+phaseSigns AB = signs (pos 1) (negsuc 0) (pos 0)
+phaseSigns BC = signs (pos 0) (pos 1) (negsuc 0)
+phaseSigns CA = signs (negsuc 0) (pos 0) (pos 1)
+
+-- the phases that it stands on: those whose sign is not 0
+abbrev pub standsOn : Terminals → Phases
+standsOn t = let s = phaseSigns t in phaseSet (not (inside 0 (s .a))) (not (inside 0 (s .b))) (not (inside 0 (s .c)))
+
+-- whether it stands between two phases
+abbrev pub delta : Terminals → Bool
+delta OnA = false
+delta OnB = false
+delta OnC = false
+delta AB = true
+delta BC = true
+delta CA = true
 
 -- ---- the columns p1 to p12 of each kind of row
 abbrev pub impedance : Phases → Column
@@ -109,9 +139,12 @@ inLimit Unused z = true
 unfoldable pub branchIn : Kind → List ℤ → Bool
 branchIn k p = all (λ j. inLimit (columnOf k j) (nth p j)) (count 1 12)
 
--- "vn 1 to 2,000,000 cV; p, q in VA, within ±3,000,000"
+-- "vn 1 to 2,000,000 cV; p, q in VA, within ±3,000,000"; 02, of AB, BC and CA: "For these rows vn may reach 4,000,000"
+abbrev pub vnMost : Terminals → ℤ
+vnMost t = pos (cond (delta t) 4000000 2000000)
+
 unfoldable pub loadIn : LoadRow → Bool
-loadIn l = between (pos 1) (pos 2000000) (l .vn) && (inside 3000000 (l .s .re) && inside 3000000 (l .s .im))
+loadIn l = between (pos 1) (vnMost (l .phase)) (l .vn) && (inside 3000000 (l .s .re) && inside 3000000 (l .s .im))
 
 unfoldable pub outOfLimit : Rows → Found
 outOfLimit r =
@@ -208,7 +241,7 @@ above par (suc n) (suc i) = above par n (par (suc i))
 unfoldable pub notReached : Rows → Found
 notReached r = let f = feederOf r in firstBranch (λ k b. not (eqb (above (parent f) (rowCount f) k) 0)) r
 
--- 23: "branch phases not all at its from-node, Y or D not ABC, load's node unknown or its phase absent"
+-- 23: "branch phases not all at its from-node, Y or D not ABC, load's node unknown or its phase absent"; 02: "Both phases must be present under 23"
 abbrev pub threePhase : Kind → Phases → Bool
 threePhase L f = true
 threePhase R f = true
@@ -219,7 +252,7 @@ unfoldable pub phaseAbsent : Rows → Found
 phaseAbsent r =
     let f = feederOf r in
     orElse (firstBranch (λ k b. not (allOf (b .phases) (phasesOf f (parent f k)) && threePhase (b .kind) (b .phases))) r)
-    (firstLoad (λ k l. not (has (phasesOf f (placeOf (l .node) (f .nodes))) (l .phase))) r)
+    (firstLoad (λ k l. not (allOf (standsOn (l .phase)) (phasesOf f (placeOf (l .node) (f .nodes))))) r)
 
 -- 24: "nonzero where 0 is due": where a phase that the column belongs to is absent, and where the kind does not use the column
 abbrev pub zeroIfDue : Phases → Column → ℤ → Bool

@@ -14,9 +14,9 @@ use Rattle.feeder.specs.declared.Kind.the-variants.{D, L, R, Y}
 use Rattle.feeder.specs.declared.LoadKind.{LoadKind}
 use Rattle.feeder.specs.declared.LoadKind.the-variants.{Current, Impedance, Power}
 use Rattle.feeder.specs.declared.LoadRow.{LoadRow}
-use Rattle.feeder.specs.declared.Phase.{Phase}
-use Rattle.feeder.specs.declared.Phase.the-variants.{A, B, C}
 use Rattle.feeder.specs.declared.Phases.{Phases}
+use Rattle.feeder.specs.declared.Terminals.{Terminals}
+use Rattle.feeder.specs.declared.Terminals.the-variants.{AB, BC, CA, OnA, OnB, OnC}
 use Rattle.integers.specs.Lists.{All}
 use Rattle.text.specs.Lines.{Row, rowText, Readable}
 use Rattle.text.specs.Text.{bytes, joined, pack, word}
@@ -33,11 +33,14 @@ kindWord R = word "R"
 kindWord Y = word "Y"
 kindWord D = word "D"
 
--- "Load phase A, B or C; kind P, I or Z (constant power, current, impedance)"
-unfoldable pub phaseWord : Phase → ℕ
-phaseWord A = word "A"
-phaseWord B = word "B"
-phaseWord C = word "C"
+-- "Load phase A, B or C; kind P, I or Z (constant power, current, impedance)"; 02: "A load row's phase may now also be AB, BC or CA"
+unfoldable pub phaseWord : Terminals → ℕ
+phaseWord OnA = word "A"
+phaseWord OnB = word "B"
+phaseWord OnC = word "C"
+phaseWord AB = word "AB"
+phaseWord BC = word "BC"
+phaseWord CA = word "CA"
 
 unfoldable pub loadWord : LoadKind → ℕ
 loadWord Power = word "P"

@@ -14,9 +14,9 @@ use Rattle.feeder.specs.declared.Kind.the-variants.{D, L, R, Y}
 use Rattle.feeder.specs.declared.LoadKind.{LoadKind}
 use Rattle.feeder.specs.declared.LoadKind.the-variants.{Current, Impedance, Power}
 use Rattle.feeder.specs.declared.LoadRow.{LoadRow}
-use Rattle.feeder.specs.declared.Phase.{Phase}
-use Rattle.feeder.specs.declared.Phase.the-variants.{A, B, C}
 use Rattle.feeder.specs.declared.Phases.{Phases}
+use Rattle.feeder.specs.declared.Terminals.{Terminals}
+use Rattle.feeder.specs.declared.Terminals.the-variants.{AB, BC, CA, OnA, OnB, OnC}
 use Rattle.text.specs.Lines.{Placed, Row, listed, nth, row, text, wordOf}
 use Rattle.text.specs.Text.{word}
 
@@ -44,8 +44,9 @@ phasesWords =
 abbrev pub kindWords : List (ℕ × Kind)
 kindWords = (word "L", L) ∷ (word "R", R) ∷ (word "Y", Y) ∷ (word "D", D) ∷ []
 
-abbrev pub phaseWords : List (ℕ × Phase)
-phaseWords = (word "A", A) ∷ (word "B", B) ∷ (word "C", C) ∷ []
+-- 02: "A load row's phase may now also be AB, BC or CA"
+abbrev pub phaseWords : List (ℕ × Terminals)
+phaseWords = (word "A", OnA) ∷ (word "B", OnB) ∷ (word "C", OnC) ∷ (word "AB", AB) ∷ (word "BC", BC) ∷ (word "CA", CA) ∷ []
 
 abbrev pub loadWords : List (ℕ × LoadKind)
 loadWords = (word "P", Power) ∷ (word "I", Current) ∷ (word "Z", Impedance) ∷ []

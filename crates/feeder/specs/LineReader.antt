@@ -21,9 +21,9 @@ use Rattle.feeder.specs.declared.Kind.the-variants.{D, L, R, Y}
 use Rattle.feeder.specs.declared.LoadKind.{LoadKind}
 use Rattle.feeder.specs.declared.LoadKind.the-variants.{Current, Impedance, Power}
 use Rattle.feeder.specs.declared.LoadRow.{LoadRow}
-use Rattle.feeder.specs.declared.Phase.{Phase}
-use Rattle.feeder.specs.declared.Phase.the-variants.{A, B, C}
 use Rattle.feeder.specs.declared.Phases.{Phases}
+use Rattle.feeder.specs.declared.Terminals.{Terminals}
+use Rattle.feeder.specs.declared.Terminals.the-variants.{AB, BC, CA, OnA, OnB, OnC}
 use Rattle.integers.specs.Bools.{clash}
 use Rattle.integers.specs.Lists.{All}
 use Rattle.text.specs.Lines.{Placed, Row, gotName, gotNumber, listed, names, nth, numbers, row, rowText, sepOf, wordOf, Readable}
@@ -125,13 +125,16 @@ kind-back r D = refl
 
 phase-listed : All (λ y. y .0 ≡ phaseWord (y .1)) phaseWords
 unfolding phaseWord
-phase-listed = (refl, (refl, (refl, tt)))
+phase-listed = (refl, (refl, (refl, (refl, (refl, (refl, tt))))))
 
-phase-back : (r : Refusal) (p : Phase) → listed r (phaseWord p) phaseWords ≡ good p
+phase-back : (r : Refusal) (p : Terminals) → listed r (phaseWord p) phaseWords ≡ good p
 unfolding listed phaseWord word pack bytes
-phase-back r A = refl
-phase-back r B = refl
-phase-back r C = refl
+phase-back r OnA = refl
+phase-back r OnB = refl
+phase-back r OnC = refl
+phase-back r AB = refl
+phase-back r BC = refl
+phase-back r CA = refl
 
 loads-listed : All (λ y. y .0 ≡ loadWord (y .1)) loadWords
 unfolding loadWord
@@ -200,7 +203,7 @@ load-stands : (r : Refusal) (s : List ℕ) (at : ℕ) (l : LoadRow) (p : ℕ) �
 unfolding loadRow rowOfLoad
 load-stands r s at l p e =
     let a = bound {X = Placed Row} _ _ (l, p) e in
-    let c = bound {X = Phase} _ _ (l, p) (a .rest) in
+    let c = bound {X = Terminals} _ _ (l, p) (a .rest) in
     let d = bound {X = LoadKind} _ _ (l, p) (c .rest) in
     let x : Row = a .value .0 in
     let n : ℕ = a .value .1 in
@@ -218,7 +221,7 @@ load-told : (r : Refusal) (s : List ℕ) (at : ℕ) (y : Refusal) → loadRow r 
 unfolding loadRow
 load-told r s at y e =
     stopped {X = Placed Row} _ _ y e (row-told r 3 3 s at y) (λ x c f.
-    stopped {X = Phase} _ _ y f (listed-told r (wordOf (x .0) 1) phaseWords y) (λ p d g.
+    stopped {X = Terminals} _ _ y f (listed-told r (wordOf (x .0) 1) phaseWords y) (λ p d g.
     stopped {X = LoadKind} _ _ y g (listed-told r (wordOf (x .0) 2) loadWords y) (λ k i h. not-good _ y h)))
 
 pub load-reader : LineReader loadRow loadText LoadWritable

@@ -12,7 +12,7 @@ use Rattle.feeder.specs.declared.Load.{Load}
 use Rattle.feeder.specs.declared.LoadKind.the-variants.{Power}
 use Rattle.feeder.specs.declared.LoadRow.{LoadRow}
 use Rattle.feeder.specs.declared.Network.{Network}
-use Rattle.feeder.specs.declared.Phase.the-variants.{A}
+use Rattle.feeder.specs.declared.Terminals.the-variants.{OnA}
 use Rattle.integers.specs.Pairs.{0c}
 
 -- what an array of n places keeps of a list: its first n, and d where it has fewer
@@ -26,10 +26,10 @@ abbrev pub noBranchRow : BranchRow
 noBranchRow = record { from = 0; to = 0; phases = noPhases; kind = L; p = replicate 12 (pos 0) }
 
 abbrev pub noLoadRow : LoadRow
-noLoadRow = record { node = 0; phase = A; kind = Power; vn = pos 0; s = 0c }
+noLoadRow = record { node = 0; phase = OnA; kind = Power; vn = pos 0; s = 0c }
 
 abbrev pub noLoad : Load
-noLoad = record { node = 0; phase = A; kind = Power; vn = pos 0; s = 0c }
+noLoad = record { node = 0; phase = OnA; kind = Power; vn = pos 0; s = 0c }
 
 -- a feeder's branches in an array, place 0 unused; and its loads
 abbrev pub branchArray : Feeder → List Branch

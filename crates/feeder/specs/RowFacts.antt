@@ -11,7 +11,7 @@ use lib.ListN.{List·getD-eq-default, getD, length}
 use lib.Signed.{leZ}
 use borrow.Author.Tests.{leb-false, leb-true, not-false}
 use Rattle.answers.specs.declared.Found.the-variants.{Nothing}
-use Rattle.feeder.specs.Feeder.{Feeder, allOf, allPhases, between, branchAt, branchIn, branchOf, columnOf, deviceOf, feederOf, has, inLimit, loadIn, loadOf, noBranch, noPhases, nodesOf, outOfLimit, parent, phaseAbsent, phasesOf, placeOf, rowCount, threePhase}
+use Rattle.feeder.specs.Feeder.{Feeder, allOf, allPhases, between, branchAt, branchIn, branchOf, columnOf, deviceOf, feederOf, has, inLimit, loadIn, loadOf, noBranch, noPhases, nodesOf, outOfLimit, parent, phaseAbsent, phasesOf, placeOf, rowCount, standsOn, threePhase, vnMost}
 use Rattle.feeder.specs.FeederLaws.{Sound, branch-is, row-count, rowOf}
 use Rattle.feeder.specs.Layout.{Rows}
 use Rattle.feeder.specs.RowLaws.{each-true, none-bad, or-none}
@@ -26,9 +26,12 @@ use Rattle.feeder.specs.declared.LoadRow.{LoadRow}
 use Rattle.feeder.specs.declared.Phase.{Phase}
 use Rattle.feeder.specs.declared.Phase.the-variants.{A, B, C}
 use Rattle.feeder.specs.declared.Phases.{Phases}
+use Rattle.feeder.specs.declared.Terminals.{Terminals}
+use Rattle.feeder.specs.declared.Terminals.the-variants.{AB, BC, CA, OnA, OnB, OnC}
 use Rattle.integers.specs.Bools.{both, clash}
 use Rattle.integers.specs.ListLaws.{all-image, at-all, count-true}
 use Rattle.integers.specs.Lists.{All}
+use Rattle.integers.specs.Pairs.{inside}
 use Rattle.integers.specs.Whole.{abs-parts, add-parts, leZ-true, neg-neg, pos-neg, zarith}
 use Rattle.text.specs.Lines.{nth}
 
@@ -43,9 +46,9 @@ pub record OfBranch (f : Feeder) (b : Branch) : Type 0 where
   pub sized : Sized (b .device) (b .phases)
   pub under : (p : Phase) → has (b .phases) p ≡ true → has (phasesOf f (b .from)) p ≡ true
 
--- a load: its node has its phase, and its vn is not 0
+-- a load: its node has its phases, and its vn is not 0
 pub record OfLoad (f : Feeder) (l : Load) : Type 0 where
-  pub there : has (phasesOf f (l .node)) (l .phase) ≡ true
+  pub there : (p : Phase) → has (standsOn (l .phase)) p ≡ true → has (phasesOf f (l .node)) p ≡ true
   pub rated : 0 < natAbs (l .vn)
 
 -- ---- limits
@@ -131,8 +134,9 @@ load-ok s f w j d q =
     let r = w .rows in
     let l = getD (r .loads) j d in
     record {
-      there = not-false _ (none-bad (λ k l. not (has (phasesOf (feederOf r) (placeOf (l .node) (feederOf r .nodes))) (l .phase))) (length (r .branches) + 6) 1 (r .loads) d (or-none _ _ (w .t23) .1) j q);
-      rated = at-least _ (l .vn) (both (between (pos 1) (pos 2000000) (l .vn)) _ (load-in s f w j q d) .0);
+      there = λ p h. implied _ _ (each-true (λ p. cond (has (standsOn (l .phase)) p) (has (phasesOf (feederOf r) (placeOf (l .node) (feederOf r .nodes))) p) true)
+          (not-false _ (none-bad (λ k l. not (allOf (standsOn (l .phase)) (phasesOf (feederOf r) (placeOf (l .node) (feederOf r .nodes))))) (length (r .branches) + 6) 1 (r .loads) d (or-none _ _ (w .t23) .1) j q)) p) h;
+      rated = at-least _ (l .vn) (both (between (pos 1) (vnMost (l .phase)) (l .vn)) _ (load-in s f w j q d) .0);
     }
 
 -- 11 and 23, of each branch and of each load
@@ -167,3 +171,16 @@ node-in f (suc k) p h = go (leb (rowCount f) k) refl
     go : (c : Bool) → leb (rowCount f) k ≡ c → suc k < suc (rowCount f)
     go true e = none p (subst (λ (b : Branch). has (b .phases) p ≡ true) (List·getD-eq-default (f .branches) noBranch (leb-true (rowCount f) k e)) h)
     go false e = let z = leb-false (rowCount f) k e in omega arith
+
+-- and so is the node of a load
+pub load-node : (f : Feeder) (l : Load) → OfLoad f l → l .node < suc (rowCount f)
+unfolding inside
+load-node f l o = go (l .phase) (o .there)
+  where
+    go : (t : Terminals) → ((p : Phase) → has (standsOn t) p ≡ true → has (phasesOf f (l .node)) p ≡ true) → l .node < suc (rowCount f)
+    go OnA h = node-in f (l .node) A (h A refl)
+    go OnB h = node-in f (l .node) B (h B refl)
+    go OnC h = node-in f (l .node) C (h C refl)
+    go AB h = node-in f (l .node) A (h A refl)
+    go BC h = node-in f (l .node) B (h B refl)
+    go CA h = node-in f (l .node) C (h C refl)

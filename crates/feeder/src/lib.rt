@@ -1,4 +1,6 @@
 // A feeder in memory: its source, branches and loads. specs/Layout.antt and specs/Feeder.antt say what a file holds and which files are refused.
+ghost use mathlib.Core.Path.{_≡_};
+ghost use Rattle.feeder.specs.Feeder.{phaseSigns};
 use integers::Pair;
 
 // A pair for each phase: the voltages at a node, or the currents of a branch.
@@ -12,6 +14,23 @@ pub enum Phase {
     A,
     B,
     C,
+}
+
+// What a load stands between: one phase and ground, or two phases.
+pub enum Terminals {
+    OnA,
+    OnB,
+    OnC,
+    AB,
+    BC,
+    CA,
+}
+
+// What of each phase's voltage or current counts: -1, 0 or 1.
+pub struct Signs {
+    pub a: i64,
+    pub b: i64,
+    pub c: i64,
 }
 
 // The phases that a branch or a node has.
@@ -74,7 +93,7 @@ pub enum LoadKind {
 // s is (p, q) in VA.
 pub struct Load {
     pub node: usize,
-    pub phase: Phase,
+    pub phase: Terminals,
     pub kind: LoadKind,
     pub vn: i64,
     pub s: Pair,
@@ -92,7 +111,7 @@ pub struct BranchRow {
 // A load row as it stands in the file.
 pub struct LoadRow {
     pub node: u64,
-    pub phase: Phase,
+    pub phase: Terminals,
     pub kind: LoadKind,
     pub vn: i64,
     pub s: Pair,
@@ -125,4 +144,27 @@ pub struct Network {
     pub loads: [Load; 300],
     pub order: [usize; 201],
     pub rank: [usize; 201],
+}
+
+// The signs of A, B, C, AB, BC and CA, for a load's voltage and for its current alike.
+const SIGNS: [Signs; 6] = [
+    Signs { a: 1, b: 0, c: 0 },
+    Signs { a: 0, b: 1, c: 0 },
+    Signs { a: 0, b: 0, c: 1 },
+    Signs { a: 1, b: -1, c: 0 },
+    Signs { a: 0, b: 1, c: -1 },
+    Signs { a: -1, b: 0, c: 1 },
+];
+
+pub fn signs_of(terminals: Terminals) -> Signs
+    ensures { λ r. ⌜ r ≡ phaseSigns terminals ⌝ }
+{
+    match terminals {
+        Terminals::OnA => SIGNS[0],
+        Terminals::OnB => SIGNS[1],
+        Terminals::OnC => SIGNS[2],
+        Terminals::AB => SIGNS[3],
+        Terminals::BC => SIGNS[4],
+        Terminals::CA => SIGNS[5],
+    }
 }

@@ -9,9 +9,9 @@ use lib.IntN.{pos, ℤ}
 use lib.ListN.{drop, drop-of-length-le, getD, length}
 use Rattle.answers.specs.declared.Found.{Found}
 use Rattle.answers.specs.declared.Found.the-variants.{At, Nothing}
-use Rattle.arrays.specs.ArrayLaws.{kind-back, on-back}
-use Rattle.arrays.specs.Arrays.{branchNumbers, kindOf, loadNumbers, loadRows, noNumbers, phasesIn}
-use Rattle.feeder.specs.Feeder.{between, branchIn, firstRow, loadIn, zeros}
+use Rattle.arrays.specs.ArrayLaws.{kind-back, on-back, phase-back}
+use Rattle.arrays.specs.Arrays.{branchNumbers, kindOf, loadNumbers, loadRows, noNumbers, phaseOf, phasesIn}
+use Rattle.feeder.specs.Feeder.{between, branchIn, firstRow, loadIn, vnMost, zeros}
 use Rattle.feeder.specs.Network.{kept, noBranchRow, noLoadRow}
 use Rattle.feeder.specs.NetworkLaws.{kept-below}
 use Rattle.feeder.specs.declared.BranchRow.{BranchRow}
@@ -39,7 +39,7 @@ abbrev pub rowZeros : List ℤ → Bool
 rowZeros n = zeros (kindOf (nth n 5)) (phasesIn n) (drop 5 n)
 
 abbrev pub powersIn : List ℤ → Bool
-powersIn n = between (pos 1) (pos 2000000) (nth n 4) && (inside 3000000 (nth n 5) && inside 3000000 (nth n 6))
+powersIn n = between (pos 1) (vnMost (phaseOf (nth n 2))) (nth n 4) && (inside 3000000 (nth n 5) && inside 3000000 (nth n 6))
 
 branch-in : (from : ℕ) (b : BranchRow) → rowIn (branchNumbers from b) ≡ branchIn (b .kind) (b .p)
 unfolding branchNumbers
@@ -51,7 +51,7 @@ branch-zeros from b = simp (kind-back (b .kind), on-back (b .phases .a), on-back
 
 load-in : (node : ℕ) (l : LoadRow) → powersIn (loadNumbers node l) ≡ loadIn l
 unfolding loadNumbers loadIn
-load-in node l = refl
+load-in node l = rw (phase-back (l .phase))
 
 -- ---- row k as the array has it, whatever numbers its nodes have
 abbrev pub branchesAs : (BranchRow → ℕ) → List BranchRow → List (List ℤ)

@@ -5,8 +5,10 @@ ghost use mathlib.Core.Path.{_≡_};
 ghost use Prim.Native.Nat.{_≤_, ℕ};
 ghost use lib.IntN.{negℤ, pos};
 ghost use lib.ListN.{drop, length, take};
+ghost use mir.Syntax.{w64};
+ghost use mir.Val.{SFits};
 ghost use Rattle.arrays.specs.Arrays.{branchRows, loadRows, numberedBranches};
-ghost use Rattle.feeder.specs.Feeder.{between, branchIn, firstRow, sourceIn, zeros};
+ghost use Rattle.feeder.specs.Feeder.{between, branchIn, firstRow, sourceIn, vnMost, zeros};
 ghost use Rattle.feeder.specs.declared.BranchRow.{BranchRow};
 ghost use Rattle.feeder.specs.declared.Kind.the-variants.{L, R, Y};
 ghost use Rattle.feeder.specs.declared.LoadRow.{LoadRow};
@@ -19,9 +21,11 @@ use arrays::Branches;
 use arrays::Loads;
 use arrays::kind_of;
 use arrays::p_at;
+use arrays::phase_of;
 use arrays::phases_of;
 use feeder::Kind;
 use feeder::Phases;
+use feeder::Terminals;
 use integers::Pair;
 use integers::pairs;
 use integers::whole;
@@ -193,12 +197,29 @@ pub fn source_in(given: [i64; 8]) -> bool
     between(1, 100, sweeps)
 }
 
+// The greatest vn of a load row: twice as much between two phases.
+fn vn_most(terminals: Terminals) -> i64
+    ensures value { λ r. ⌜ r ≡ vnMost terminals ⌝ }
+    ensures fits { λ r. ⌜ SFits w64 r ⌝ }
+{
+    match terminals {
+        Terminals::OnA => 2_000_000,
+        Terminals::OnB => 2_000_000,
+        Terminals::OnC => 2_000_000,
+        Terminals::AB => 4_000_000,
+        Terminals::BC => 4_000_000,
+        Terminals::CA => 4_000_000,
+    }
+}
+
 // Whether vn, p and q of a load row are in their limits.
 fn load_in(n: &[i64; 6]) -> bool
     ensures { λ r. ⌜ r ≡ powersIn (now (n .entry)) ⌝ }
 {
+    let terminals = phase_of(n[1]);
+    let most = vn_most(terminals);
     let vn = n[3];
-    if !between(1, 2_000_000, vn) {
+    if !between(1, most, vn) {
         return false;
     }
     let s = Pair { re: n[4], im: n[5] };

@@ -5,14 +5,16 @@ ghost use Prim.Native.Nat.{_≤_};
 ghost use lib.IntN.{natAbs};
 ghost use Rattle.integers.specs.Pairs.{_·*_, scaled};
 ghost use Rattle.integers.specs.PairLaws.{Within};
-ghost use Rattle.equations.specs.Equations.{each, mix, phaseSigns, signAt, weight, currentAt};
+ghost use Rattle.equations.specs.Equations.{each, mix, signAt, weight, currentAt};
 ghost use Rattle.equations.specs.Sizes.{Within3};
 ghost use Rattle.equations.specs.Limits.{LoadOk};
+ghost use Rattle.feeder.specs.Feeder.{phaseSigns};
 ghost use Rattle.loads.specs.Loads.{drawnBy, lacksVoltage};
+use devices::threes;
 use feeder::Load;
 use feeder::LoadKind;
-use feeder::Phase;
 use feeder::Three;
+use feeder::signs_of;
 use integers::Pair;
 use integers::pairs;
 use integers::whole;
@@ -24,41 +26,24 @@ pub enum Drawn {
     TooLarge,
 }
 
-// The voltage at the row's phase.
+// The voltage at which the row stands: its phase's, or the first phase's minus the second's.
 pub fn voltage_on(l: Load, v: Three) -> Pair
+    requires { ⌜ Within3 2000000 v ⌝ }
     ensures { λ r. ⌜ r ≡ mix (phaseSigns (l .phase)) v ⌝ }
 {
     let phase = l.phase;
-    match phase {
-        Phase::A => v.a,
-        Phase::B => v.b,
-        Phase::C => v.c,
-    }
+    let s = signs_of(phase);
+    threes::mix(s, v)
 }
 
-// The row's current on its phase.
+// What counts of the row's current into each phase: all of it, or all into the first and with the sign changed into the second.
 pub fn spread(l: Load, i: Pair) -> Three
+    requires { ⌜ Within 2000000 i ⌝ }
     ensures { λ r. ⌜ r ≡ each (λ p. scaled (signAt (phaseSigns (l .phase)) p) i) ⌝ }
 {
-    let none = Pair { re: 0, im: 0 };
     let phase = l.phase;
-    match phase {
-        Phase::A => Three {
-            a: i,
-            b: none,
-            c: none,
-        },
-        Phase::B => Three {
-            a: none,
-            b: i,
-            c: none,
-        },
-        Phase::C => Three {
-            a: none,
-            b: none,
-            c: i,
-        },
-    }
+    let s = signs_of(phase);
+    threes::spread(s, i)
 }
 
 // w, by which conj(S)·V is divided.

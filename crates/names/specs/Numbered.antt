@@ -4,7 +4,7 @@ use mathlib.Core.List.{List, _∷_}
 use Prim.Native.Nat.{ℕ}
 use lib.Dec.{eqb, ltb}
 use lib.ListN.{getD}
-use Rattle.feeder.specs.Feeder.{allOf, allPhases, feederOf, has, noBranch, nodesOf, placeOf}
+use Rattle.feeder.specs.Feeder.{allOf, allPhases, feederOf, noBranch, nodesOf, placeOf, standsOn}
 use Rattle.feeder.specs.Layout.{Rows}
 use Rattle.feeder.specs.Network.{kept, noLoad}
 use Rattle.feeder.specs.declared.Branch.{Branch}
@@ -47,4 +47,4 @@ unfoldable pub branchAbsent : List Branch → ℕ → Branch → Bool
 branchAbsent bs k b = not (allOf (b .phases) (phasesIn bs (getD bs k noBranch .from)) && threePhaseOf (b .device) (b .phases))
 
 unfoldable pub loadAbsent : List Branch → ℕ → Load → Bool
-loadAbsent bs k l = not (has (phasesIn bs (l .node)) (l .phase))
+loadAbsent bs k l = not (allOf (standsOn (l .phase)) (phasesIn bs (l .node)))

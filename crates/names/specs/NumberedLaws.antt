@@ -13,7 +13,7 @@ use borrow.Author.Tests.{le-ltb, lt-ltb, ltb-false, ne-eqb}
 use Rattle.answers.specs.declared.Found.the-variants.{Nothing}
 use Rattle.arrays.specs.ArrayLaws.{branch-at as row-at, branches-numbered, loads-numbered}
 use Rattle.arrays.specs.Arrays.{branchOf as rowOf, branchesOf, kindOf, loadsOf, numberedBranches, numberedLoads, toNames}
-use Rattle.feeder.specs.Feeder.{allOf, branchAt, branchOf, deviceOf, feederOf, firstRow, has, known, loadOf, noBranch, noPhases, nodesOf, orElse, parent, phaseAbsent, phasesOf, placeOf, secondTo, threePhase, unknownFrom}
+use Rattle.feeder.specs.Feeder.{allOf, branchAt, branchOf, deviceOf, feederOf, firstRow, known, loadOf, noBranch, noPhases, nodesOf, orElse, parent, phaseAbsent, phasesOf, placeOf, secondTo, standsOn, threePhase, unknownFrom}
 use Rattle.feeder.specs.Layout.{Rows}
 use Rattle.feeder.specs.Network.{noLoad}
 use Rattle.feeder.specs.NetworkLaws.{getD-kept, take-kept}
@@ -22,9 +22,11 @@ use Rattle.feeder.specs.declared.Branch.{Branch}
 use Rattle.feeder.specs.declared.Kind.{Kind}
 use Rattle.feeder.specs.declared.Kind.the-variants.{D, L, R, Y}
 use Rattle.feeder.specs.declared.Load.{Load}
-use Rattle.feeder.specs.declared.Phase.{Phase}
-use Rattle.feeder.specs.declared.Phase.the-variants.{A, B, C}
 use Rattle.feeder.specs.declared.Phases.{Phases}
+use Rattle.feeder.specs.declared.Terminals.{Terminals}
+use Rattle.feeder.specs.declared.Terminals.the-variants.{AB, BC, CA, OnA, OnB, OnC}
+use Rattle.integers.specs.Lists.{all}
+use Rattle.integers.specs.Pairs.{inside}
 use Rattle.text.specs.Lines.{nth}
 use Rattle.names.specs.Numbered.{branchAbsent, branchesIn, fromUnknown, loadAbsent, loadsIn, nodesIn, phasesIn, threePhaseOf, toSecond}
 use Rattle.names.specs.Rest.{first-image, rest}
@@ -41,10 +43,14 @@ pub three-at : (l : List (List ℤ)) (k : ℕ) (f : Phases) → threePhaseOf (ge
 unfolding rowOf
 three-at l k f = rw (row-at l k) (threes (kindOf (nth (getD l k []) 5)) (drop 5 (getD l k [])) f)
 
-has-none : (p : Phase) → has noPhases p ≡ false
-has-none A = refl
-has-none B = refl
-has-none C = refl
+has-none : (p : Terminals) → allOf (standsOn p) noPhases ≡ false
+unfolding all inside
+has-none OnA = refl
+has-none OnB = refl
+has-none OnC = refl
+has-none AB = refl
+has-none BC = refl
+has-none CA = refl
 
 -- no phase is at a node that no branch feeds
 pub load-unknown : (bs : List Branch) (k : ℕ) (l : Load) → 0 < l .node → getD bs (l .node) noBranch ≡ noBranch → loadAbsent bs k l ≡ true
@@ -148,7 +154,7 @@ module _ (r : Rows) (count : ℕ) (size : count ≡ length (r .branches)) where
         (λ k b. rw (threes (b .kind) (b .p) (b .phases), phases-at, parent-at k))
 
     absent-loads : firstRow (loadAbsent (branchesIn r)) (count + 6) 1 (feederOf r .loads)
-        ≡ firstRow (λ k l. not (has (phasesOf (feederOf r) (placeOf (l .node) (feederOf r .nodes))) (l .phase))) (length (r .branches) + 6) 1 (r .loads)
+        ≡ firstRow (λ k l. not (allOf (standsOn (l .phase)) (phasesOf (feederOf r) (placeOf (l .node) (feederOf r .nodes))))) (length (r .branches) + 6) 1 (r .loads)
     unfolding feederOf loadAbsent
     absent-loads = rw (sym size) (first-image _ (loadAbsent (branchesIn r)) (loadOf (nodesOf r)) (count + 6) 1 (r .loads) (λ k l. rw phases-at))
 

@@ -4,7 +4,7 @@ ghost use Prim.Native.Nat.{ℕ, _+_, _<_, _≤_};
 ghost use mathlib.Core.Bool.{cond, true};
 ghost use lib.ListN.{getD, length, take};
 ghost use Rattle.arrays.specs.Arrays.{branchesOf, loadsOf};
-ghost use Rattle.feeder.specs.Feeder.{allOf, firstRow, has, noBranch, phaseAbsent, secondTo, threePhase, unknownFrom};
+ghost use Rattle.feeder.specs.Feeder.{allOf, firstRow, noBranch, phaseAbsent, secondTo, standsOn, threePhase, unknownFrom};
 ghost use Rattle.feeder.specs.Layout.{Rows};
 ghost use Rattle.names.specs.Numbered.{branchAbsent, branchesIn, loadAbsent, loadsIn, nodePhases, nodesIn};
 ghost use Rattle.names.specs.Rest.{rest};
@@ -19,8 +19,10 @@ use arrays::kind_of;
 use arrays::load_at;
 use arrays::phases_at;
 use feeder::Kind;
-use feeder::Phase;
 use feeder::Phases;
+use feeder::Terminals;
+use feeder::signs_of;
+use integers::whole;
 
 // 20: a from-name that no node has got the number behind the last, count + 1.
 pub fn first_unknown_from(branches: &Branches, count: usize) -> Found
@@ -55,16 +57,6 @@ pub fn first_second_to(nodes: &Names, count: usize, slots: &[u8; 4093]) -> Found
     Found::Nothing
 }
 
-fn has_phase(phases: Phases, p: Phase) -> bool
-    ensures { λ r. ⌜ r ≡ has phases p ⌝ }
-{
-    match p {
-        Phase::A => phases.a,
-        Phase::B => phases.b,
-        Phase::C => phases.c,
-    }
-}
-
 // Whether a phase is absent in f, or there in g.
 fn covers(f: bool, g: bool) -> bool
     ensures { λ r. ⌜ r ≡ cond f g true ⌝ }
@@ -83,6 +75,29 @@ fn all_of(f: Phases, g: Phases) -> bool
         return false;
     }
     covers(f.c, g.c)
+}
+
+// The phases that a load stands on: those whose sign is not 0.
+fn stands_on(terminals: Terminals) -> Phases
+    ensures { λ r. ⌜ r ≡ standsOn terminals ⌝ }
+{
+    let s = signs_of(terminals);
+    let a = whole::inside(s.a, 0);
+    let b = whole::inside(s.b, 0);
+    let c = whole::inside(s.c, 0);
+    Phases {
+        a: !a,
+        b: !b,
+        c: !c,
+    }
+}
+
+// Whether all phases that a load stands on are among these.
+fn has_phases(phases: Phases, terminals: Terminals) -> bool
+    ensures { λ r. ⌜ r ≡ allOf (standsOn terminals) phases ⌝ }
+{
+    let on = stands_on(terminals);
+    all_of(on, phases)
 }
 
 // The phases of node k, which is fed by a branch with phases f: the source has all.
@@ -140,7 +155,7 @@ fn first_branch_absent(branches: &Branches, count: usize) -> Found
     Found::Nothing
 }
 
-// 23, of a load: its node is unknown, or its phase is not there.
+// 23, of a load: its node is unknown, or a phase of it is not there.
 fn first_load_absent(branches: &Branches, count: usize, loads: &Loads, total: usize) -> Found
     requires { ⌜ count ≤ 200 ⌝ }
     requires { ⌜ total ≤ 300 ⌝ }
@@ -156,7 +171,7 @@ fn first_load_absent(branches: &Branches, count: usize, loads: &Loads, total: us
         let feeding = phases_at(branches, node);
         let there = node_phases(node, feeding);
         let phase = l.phase;
-        if !has_phase(there, phase) {
+        if !has_phases(there, phase) {
             return Found::At(count + 7 + i);
         }
         i += 1;

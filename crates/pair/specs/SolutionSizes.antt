@@ -7,13 +7,13 @@ use native.Mathlib.Omega.{arith}
 use lib.Dec.{eqb}
 use lib.ListN.{getD, length}
 use Rattle.answers.specs.Answers.{good}
-use Rattle.equations.specs.Equations.{beyond, beyond3, currentBeyond, drawnPower, each, loadBeyond, loadCurrent, loadsAt, lossOf, lostPower, nearCurrent, phaseSigns, signAt, sourcePower, voltageBeyond, voltageOn, zero3}
+use Rattle.equations.specs.Equations.{beyond, beyond3, currentBeyond, drawnPower, each, loadBeyond, loadCurrent, loadsAt, lossOf, lostPower, nearCurrent, signAt, sourcePower, voltageBeyond, voltageOn, zero3}
 use Rattle.equations.specs.Fit.{Fit, fit}
 use Rattle.equations.specs.Limits.{drawn-within, loss-within, source-within}
 use Rattle.equations.specs.Meets.{currents-meet, takenAt, voltages-source}
 use Rattle.equations.specs.Sizes.{Within3, beyond-false, beyond3-false, spread-within, within3-plus, within3-zero}
 use Rattle.equations.specs.SumSizes.{csum-within, sum3-within}
-use Rattle.feeder.specs.Feeder.{Feeder, branchAt, parent, reading, rowCount, rowsOf}
+use Rattle.feeder.specs.Feeder.{Feeder, branchAt, parent, phaseSigns, reading, rowCount, rowsOf}
 use Rattle.feeder.specs.FeederLaws.{sound}
 use Rattle.feeder.specs.ProperNames.{node-proper}
 use Rattle.feeder.specs.declared.Three.{Three}
@@ -79,9 +79,9 @@ module _ (s : List ℕ) (f : Feeder) (x : Solution) (e : reading s ≡ good f) (
   unfolding lostPower
   lost-in = csum-within 200 1440000000000000 (lossOf f i) (rowsOf f) few-rows (all-count _ 1 (rowCount f) (λ j q. let z : 1 + j ≡ suc j = omega arith in rw z (loss-in j q)))
 
-  drawn-in : Within 2400000000000000 (drawnPower f v)
+  drawn-in : Within 4800000000000000 (drawnPower f v)
   unfolding drawnPower voltageOn
-  drawn-in = csum-within 300 8000000000000 (λ l. voltageOn l v ·* loadCurrent v l) (f .loads) (limits .few-loads)
+  drawn-in = csum-within 300 16000000000000 (λ l. voltageOn l v ·* loadCurrent v l) (f .loads) (limits .few-loads)
       (all-map2 (f .loads) (λ l a b. drawn-within (l .phase) (voltages-in (l .node) (a .1)) b) (limits .loads) loads-in)
 
   -- all that is taken at the source: 300 load rows and 200 branches

@@ -6,9 +6,9 @@ use Prim.Native.Nat.{_+_, _<_, _≤_, suc, zero, ℕ}
 use native.Mathlib.Omega.{arith}
 use lib.Dec.{eqb}
 use lib.ListN.{getD, length}
-use Rattle.equations.specs.Equations.{beyond, beyond3, currentAt, currentBeyond, currents, downward, drawnPower, dropOf, each, farVoltage, loadBeyond, loadCurrent, loadsAt, lossOf, lostPower, mix, nearCurrent, needsVoltage, phaseSigns, plus3, power, signAt, sourcePower, sum3, upward, voltageBeyond, voltageOn, voltages, zero3, zeroVoltage}
+use Rattle.equations.specs.Equations.{beyond, beyond3, currentAt, currentBeyond, currents, downward, drawnPower, dropOf, each, farVoltage, loadBeyond, loadCurrent, loadsAt, lossOf, lostPower, mix, nearCurrent, needsVoltage, plus3, power, signAt, sourcePower, sum3, upward, voltageBeyond, voltageOn, voltages, zero3, zeroVoltage}
 use Rattle.equations.specs.ThreeLaws.{sum3-cong}
-use Rattle.feeder.specs.Feeder.{Feeder, branchAt, parent, rowCount, rowsOf}
+use Rattle.feeder.specs.Feeder.{Feeder, branchAt, parent, phaseSigns, rowCount, rowsOf}
 use Rattle.feeder.specs.Network.{kept}
 use Rattle.feeder.specs.NetworkLaws.{getD-kept}
 use Rattle.feeder.specs.declared.Load.{Load}

@@ -15,7 +15,7 @@ use Rattle.equations.specs.Meets.{currents-meet, taken-same, takenAt, voltages-
 use Rattle.equations.specs.Weight.{weight-pos}
 use Rattle.feeder.specs.Feeder.{Feeder, branchAt, parent, reading, rowCount}
 use Rattle.feeder.specs.FeederLaws.{parent-known, sound}
-use Rattle.feeder.specs.RowFacts.{OfLoad, branch-facts, load-facts, node-in}
+use Rattle.feeder.specs.RowFacts.{OfLoad, branch-facts, load-facts, load-node}
 use Rattle.feeder.specs.declared.Load.{Load}
 use Rattle.feeder.specs.declared.Three.{Three}
 use Rattle.integers.specs.ListLaws.{all-count, all-map2, any-false}
@@ -50,7 +50,7 @@ module _ (s : List ℕ) (f : Feeder) (r : Reported) (e : reading s ≡ good f) (
       }
 
   load-known : (l : Load) → OfLoad f l → (needsVoltage (l .kind) && within 0 (voltageOn l v)) ≡ false → LoadKnown f v l
-  load-known l o z = record { node-known = node-in f (l .node) (l .phase) (o .there); weighs = weight-pos (l .kind) (l .vn) (voltageOn l v) (o .rated) z }
+  load-known l o z = record { node-known = load-node f l o; weighs = weight-pos (l .kind) (l .vn) (voltageOn l v) (o .rated) z }
 
   -- all that the account asks
   pub all-known : Known f r

@@ -12,8 +12,8 @@ use Rattle.feeder.specs.declared.BranchRow.{BranchRow}
 use Rattle.feeder.specs.declared.Kind.{Kind}
 use Rattle.feeder.specs.declared.LoadKind.{LoadKind}
 use Rattle.feeder.specs.declared.LoadRow.{LoadRow}
-use Rattle.feeder.specs.declared.Phase.{Phase}
 use Rattle.feeder.specs.declared.Phases.{Phases}
+use Rattle.feeder.specs.declared.Terminals.{Terminals}
 use Rattle.rows.specs.declared.branches.BranchRead.{BranchRead}
 use Rattle.rows.specs.declared.loads.LoadRead.{LoadRead}
 use Rattle.rows.specs.declared.words.KindWord.{KindWord}
@@ -34,7 +34,7 @@ abbrev pub kindRead : Refusal → KindWord → Outcome Kind
 kindRead r (ListedKind x) = good x
 kindRead r NoKind = refused r
 
-abbrev pub phaseRead : Refusal → PhaseWord → Outcome Phase
+abbrev pub phaseRead : Refusal → PhaseWord → Outcome Terminals
 phaseRead r (ListedPhase x) = good x
 phaseRead r NoPhase = refused r
 

@@ -15,7 +15,7 @@ use crate::words::phase_of;
 use arrays::load_kind_number;
 use arrays::phase_number;
 use feeder::LoadKind;
-use feeder::Phase;
+use feeder::Terminals;
 use text::Word;
 use text::lines::Next;
 use text::lines::read_numbers;
@@ -40,7 +40,7 @@ fn no_load() -> LoadRead
 }
 
 // A row's numbers: 0 for the node, the phase, the kind, vn, p and q.
-fn numbers_of(phase: Phase, kind: LoadKind, values: [i64; 3]) -> [i64; 6]
+fn numbers_of(phase: Terminals, kind: LoadKind, values: [i64; 3]) -> [i64; 6]
     ensures { λ r. ⌜ r ≡ pos 0 ∷ phaseNumber phase ∷ loadKindNumber kind ∷ nth values 1 ∷ nth values 2 ∷ nth values 3 ∷ [] ⌝ }
 {
     let a = phase_number(phase);

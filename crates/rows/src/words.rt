@@ -6,8 +6,8 @@ ghost use Rattle.feeder.specs.Layout.{phasesWords, kindWords, phaseWords, loadW
 ghost use Rattle.rows.specs.RowRead.{phasesRead, kindRead, phaseRead, loadKindRead};
 use feeder::Kind;
 use feeder::LoadKind;
-use feeder::Phase;
 use feeder::Phases;
+use feeder::Terminals;
 
 // The words of phases: a letter's number is its byte, and each further letter is a digit of base 256.
 const A: u64 = 65;
@@ -21,6 +21,8 @@ const AB: u64 = 65 * 256 + 66;
 const AC: u64 = 65 * 256 + 67;
 
 const BC: u64 = 66 * 256 + 67;
+
+const CA: u64 = 67 * 256 + 65;
 
 const ABC: u64 = (65 * 256 + 66) * 256 + 67;
 
@@ -50,7 +52,7 @@ pub enum KindWord {
 }
 
 pub enum PhaseWord {
-    Listed(Phase),
+    Listed(Terminals),
     NotListed,
 }
 
@@ -112,18 +114,27 @@ pub fn kind_of(word: u64) -> KindWord
     KindWord::NotListed
 }
 
-// A load's phase.
+// A load's phase, or the two that it stands between.
 pub fn phase_of(word: u64) -> PhaseWord
     ensures { λ r. ⌜ ((refusal : Refusal) → listed refusal word phaseWords ≡ phaseRead refusal r) ⌝ }
 {
     if word == A {
-        return PhaseWord::Listed(Phase::A);
+        return PhaseWord::Listed(Terminals::OnA);
     }
     if word == B {
-        return PhaseWord::Listed(Phase::B);
+        return PhaseWord::Listed(Terminals::OnB);
     }
     if word == C {
-        return PhaseWord::Listed(Phase::C);
+        return PhaseWord::Listed(Terminals::OnC);
+    }
+    if word == AB {
+        return PhaseWord::Listed(Terminals::AB);
+    }
+    if word == BC {
+        return PhaseWord::Listed(Terminals::BC);
+    }
+    if word == CA {
+        return PhaseWord::Listed(Terminals::CA);
     }
     PhaseWord::NotListed
 }

@@ -1,15 +1,9 @@
-// A second solver for the study: each feeder of the file `cases` is studied, and solved again in floats with no rounding. A line for each
-// feeder has the largest distance of its report from the solution in floats, for voltages and for currents, and the largest share of its bound (bound.rt) that a
+// A second solver for the study: each feeder of the file `cases` is studied, and solved again in floats with no rounding (crate floats). A line for each
+// feeder has the largest distance of its report from the solution in floats, for voltages and for currents, and the largest share of its bound that a
 // distance has at any node and phase. A feeder on which a distance is above its bound is OVER. One that the study leaves unsettled (34) is named as
 // such, with what the floats do.
 ghost use Prim.Native.Nat.{_≤_};
 ghost use lib.ListN.{length};
-use crate::bound::bounds_on;
-use crate::compare::Compared;
-use crate::compare::compare;
-use crate::phasor::PhasorRows;
-use crate::solver::place;
-use crate::solver::solve;
 use answers::number_of;
 use arrays::Threes;
 use cases::Case;
@@ -17,6 +11,12 @@ use cases::case_at;
 use cases::read_cases;
 use cases::text_space;
 use feeder::Network;
+use floats::bound::bounds_on;
+use floats::compare::Compared;
+use floats::compare::compare;
+use floats::phasor::PhasorRows;
+use floats::solver::place;
+use floats::solver::solve;
 use ladder::Study;
 use ladder::study_feeder;
 use libc::STDOUT_FILENO;
@@ -26,12 +26,6 @@ use programs::used;
 use reading::ReadAnswer;
 use reading::read_feeder;
 use report_reader::read_report;
-
-pub mod bound;
-pub mod compare;
-pub mod component;
-pub mod phasor;
-pub mod solver;
 
 // x in hundredths, to the nearest whole number; 0 where there is none.
 fn hundredths(x: f64) -> u64 {

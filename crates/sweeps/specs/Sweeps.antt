@@ -44,4 +44,4 @@ pub record SmallCurrents (rows : ℕ) (i : List Three) : Type 0 where
 
 pub record SmallWork (rows : ℕ) (r : Worked) (i : List Three) : Type 0 where
   pub currents-small : r .work ≡ Fine → SmallCurrents rows i
-  pub drawn : Within 2400000000000000 (r .drawn)
+  pub drawn : Within 4800000000000000 (r .drawn)

@@ -140,3 +140,93 @@ v00346 = refl
 v00356 : checkOf (bytes "source,va_re,va_im,vb_re,vb_im,vc_re,vc_im,tol,sweeps\nS,720000,0,-360000,-623538,-360000,623538,1,20\n\nfrom,to,phases,kind,p1,p2,p3,p4,p5,p6,p7,p8,p9,p10,p11,p12\nS,N1,A,L,1000000,0,0,0,0,0,0,0,0,0,0,0\n\nnode,phase,kind,vn,p,q\nN1,A,P,720000,72000,0\n") (bytes "node,va_re,va_im,vb_re,vb_im,vc_re,vc_im\nS,720000,0,-360000,-623538,-360000,623538\nN1,719000,0,0,0,0,0\n\nfrom,to,ia_re,ia_im,ib_re,ib_im,ic_re,ic_im,loss_p,loss_q\nS,N1,10014,0,0,0,0,0,10024014,0\n\nsweeps,source_p,source_q,drawn_p,drawn_q,lost_p,lost_q\n2,7210080000,0,7200066000,0,10024014,-1\n") ≡ Fail TotalDiffers
 unfolding opened
 v00356 = refl
+
+-- S-1, 00022-I-AB-edit0
+v1-00022 : checkOf (bytes "source,va_re,va_im,vb_re,vb_im,vc_re,vc_im,tol,sweeps\nS,720000,0,-360000,-623538,-360000,623538,1,20\n\nfrom,to,phases,kind,p1,p2,p3,p4,p5,p6,p7,p8,p9,p10,p11,p12\nS,N1,ABC,L,300000,600000,100000,200000,90000,180000,300000,600000,80000,170000,300000,600000\n\nnode,phase,kind,vn,p,q\nN1,AB,I,1247077,90000,30000\n") (bytes "node,va_re,va_im,vb_re,vb_im,vc_re,vc_im\nS,720000,0,-360000,-623538,-360000,623538\nN1,719912,99999999999999671,-359912,-623209,-360006,623529\n\nfrom,to,ia_re,ia_im,ib_re,ib_im,ic_re,ic_im,loss_p,loss_q\nS,N1,7453,1522,-7453,-1522,0,0,2313204,4636202\n\nsweeps,source_p,source_q,drawn_p,drawn_q,lost_p,lost_q\n2,8998264836,3003468714,8995951632,2998832512,2313204,4636202\n") ≡ Fail ReportLayout
+unfolding opened
+v1-00022 = refl
+
+-- S-1, 00248-edit
+v1-00248 : checkOf (bytes "source,va_re,va_im,vb_re,vb_im,vc_re,vc_im,tol,sweeps\nTEAZI1SO,12000,0,-5919,-10439,-5908,10232,2,2\n\nfrom,to,phases,kind,p1,p2,p3,p4,p5,p6,p7,p8,p9,p10,p11,p12\n2WWI,XY,B,L,0,0,0,0,0,0,11363,11206,0,0,0,0\n0F,2WWI,B,L,0,0,0,0,0,0,15673,9786,0,0,0,0\nCDCZGEB5,7IK,ABC,L,1,1,0,0,0,0,1,1,0,0,0,-1\nTEAZI1SO,0,ABC,R,-15,-6,10,0,0,0,0,0,0,0,0,0\nTEAZI1SO,HK,ABC,L,14706,6785,0,0,2135,-1910,3796,7075,4821,6294,14711,11904\nAROR,Z,B,L,0,0,0,0,0,0,27653,11507,0,0,0,0\nHK,K3LJ,ABC,Y,28263,28263,10251,7400,10316,13403,8257,8832,0,0,0,0\nK3LJ,CDCZGEB5,ABC,L,136833,-144831,36887,-40361,0,0,141091,159420,0,0,84896,159521\n7IK,3Y,ABC,L,1,1,0,0,0,0,1,-1,0,0,1,1\nXY,AROR,B,R,0,11,0,0,0,0,0,0,0,0,0,0\n3Y,Q,ABC,L,194477,-100073,109204,107014,36596,48631,112411,270197,36302,-49242,110551,-110145\nQ,0F,AB,L,17548,7420,10286,7916,0,0,24312,-11686,0,0,0,0\n\nnode,phase,kind,vn,p,q\nZ,B,P,12886,31,-8\n3Y,A,P,12000,37,37\n") (bytes "node,va_re,va_im,vb_re,vb_im,vc_re,vc_im\nTEAZI1SO,12000,0,-5919,-10439,-5908,10232\nXY,0,0,-5928,-10426,0,0\n2WWI,0,0,-5928,-10425,0,0\n7IK,12000,9,-5922,-10432,-5908,10232\n0,10971,0,-5705,-10062,-6302,10914\nHK,11999,0,-5919,-10439,-5908,10232\nZ,0,-2000001,-6366,-11195,0,0\nK3LJ,11998,0,-5919,-10439,-5908,10232\nCDCZGEB5,12000,9,-5922,-10432,-5908,10232\n3Y,12000,9,-5922,-10432,-5908,10232\nAROR,0,0,-6366,-11196,0,0\nQ,11998,13,-5928,-10427,-5906,10233\n0F,11998,13,-5928,-10426,0,0\n\nfrom,to,ia_re,ia_im,ib_re,ib_im,ic_re,ic_im,loss_p,loss_q\n2WWI,XY,0,0,-70,-258,0,0,0,-2\n0F,2WWI,0,0,-70,-258,0,0,0,0\nCDCZGEB5,7IK,309,-308,-70,-258,0,0,0,0\nTEAZI1SO,0,0,0,0,0,0,0,0,0\nTEAZI1SO,HK,309,-308,-70,-258,0,0,309,308\nAROR,Z,0,0,-65,-240,0,0,240,65\nHK,K3LJ,309,-308,-70,-258,0,0,309,308\nK3LJ,CDCZGEB5,309,-308,-70,-258,0,0,3750,-2133\n7IK,3Y,309,-308,-70,-258,0,0,0,0\nXY,AROR,0,0,-65,-240,0,0,0,0\n3Y,Q,0,0,-70,-258,0,0,870,1898\nQ,0F,0,0,-70,-258,0,0,258,70\n\nsweeps,source_p,source_q,drawn_p,drawn_q,lost_p,lost_q\n2,6815592,2899628,6805818,2898616,5736,516\n") ≡ Fail ReportLayout
+unfolding opened
+v1-00248 = refl
+
+-- S-1, 00312-repmangle
+v1-00312 : checkOf (bytes "source,va_re,va_im,vb_re,vb_im,vc_re,vc_im,tol,sweeps\nS,146812,-99074,-39682,83259,125740,-35673,2,5\n\nfrom,to,phases,kind,p1,p2,p3,p4,p5,p6,p7,p8,p9,p10,p11,p12\nS,N0,ABC,Y,3,9,2430656,4999990,5000000,-5000000,-4999990,-4999990,0,0,0,0\nN0,N1,ABC,D,8,9,-9318124,-8768649,4999990,5000000,-5000000,5000000,0,0,0,0\n\nnode,phase,kind,vn,p,q\nN0,C,Z,1270636,-2,2\n") (bytes "node,va_re,va_im,vb_re,vb_im,vc_re,vc_im\nS,146812,-99074,-39682,83259,125740,-35673\nN0,440436,-297222,-119046,249777,377220,-107019\nN1,71118,-213978,-629417,615374,558299,-") ≡ Fail ReportLayout
+unfolding opened
+v1-00312 = refl
+
+-- S-1, 00389-repmangle
+v1-00389 : checkOf (bytes "source,va_re,va_im,vb_re,vb_im,vc_re,vc_im,tol,sweeps\nS,-85516,117159,12194,-91225,-196778,-25267,2,50\n\nfrom,to,phases,kind,p1,p2,p3,p4,p5,p6,p7,p8,p9,p10,p11,p12\nS,N0,B,L,0,0,0,0,0,0,-1544,1114,0,0,0,0\n\nnode,phase,kind,vn,p,q\nN0,B,I,52,-1,-2\n") (bytes "S,-85516,117159,12194,-91225,-196778,-25267\nnode,va_re,va_im,vb_re,vb_im,vc_re,vc_im\nN0,0,0,12194,-91225,0,0\n\nfrom,to,ia_re,ia_im,ib_re,ib_im,ic_re,ic_im,loss_p,loss_q\nS,N0,0,0,3557,2416,0,0,-3557,2416\n\nsweeps,source_p,source_q,drawn_p,drawn_q,lost_p,lost_q\n1,-177025542,-353948029,-177025542,-353948029,-3557,2416\n") ≡ Fail ReportLayout
+unfolding opened
+v1-00389 = refl
+
+-- S-1, 00449-repmangle
+v1-00449 : checkOf (bytes "source,va_re,va_im,vb_re,vb_im,vc_re,vc_im,tol,sweeps\nM,705073,-41314,-415974,-587678,-369350,639733,100,100\n\nfrom,to,phases,kind,p1,p2,p3,p4,p5,p6,p7,p8,p9,p10,p11,p12\nM,HDZM,ABC,L,26280173,27515824,12728771,-16276977,0,0,24688961,10603683,19799693,-6304847,46925095,19196297\nHDZM,DH,ABC,L,1,1,0,0,0,0,0,1,0,0,1,1\nDH,G,A,L,120711,334230,0,0,0,0,0,0,0,0,0,0\nG,H,A,L,48093809,-46449781,0,0,0,0,0,0,0,0,0,0\nH,WPQ,A,L,225848,-494993,0,0,0,0,0,0,0,0,0,0\nWPQ,9S8,A,R,3,0,0,0,0,0,0,0,0,0,0,0\n9S8,OB,A,L,49920982,32983136,0,0,0,0,0,0,0,0,0,0\nOB,Q5,A,L,13254578,-36609744,0,0,0,0,0,0,0,0,0,0\nQ5,E,A,L,211235,162916,0,0,0,0,0,0,0,0,0,0\nE,7,A,L,1,1,0,0,0,0,0,0,0,0,0,0\n7,F6,A,L,36151427,-79764015,0,0,0,0,0,0,0,0,0,0\nOB,V5RQ,A,L,26161319,29033236,0,0,0,0,0,0,0,0,0,0\n\nnode,phase,kind,vn,p,q\nG,A,P,720000,148,105\nDH,BC,P,4000000,473,-69\n7,A,Z,733758,0,-8287\n") (bytes "node,va_re,va_im,vb_re,vb_im,vc_re,vc_im\nM,705073,-41314,-415974,-587678,-369350,639733\nHDZM,707883,-44470,-\u{14}17983,-588893,-369240,639637\nDH,707883,-44470,-417983,-588893,-369240,639637\nG,707919,-44487,0,0,0,0\nH,702270,-49460,0,0,0,0\nWPQ,702212,-49481,0,0,0,0\n9S8,715630,-50426,0,0,0,0\nOB,718817,-56216,0,0,0,0\nQ5,714668,-57350,0,0,0,0\nE,714684,-57375,0,0,0,0\n7,714684,-57375,0,0,0,0\nF6,714684,-57375,0,0,0,0\nV5RQ,718817,-56216,0,0,0,0\n\nfrom,to,ia_re,ia_im,ib_re,ib_im,ic_re,ic_im,loss_p,loss_q\nM,HDZM,110,1105,4,-39,-4,39,3136477,3538589\nHDZM,DH,110,1105,4,-39,-4,39,0,0\nDH,G,110,1105,0,0,0,0,14825,41650\nG,H,90,1121,0,0,0,0,6082333,-5874870\nH,WPQ,90,1121,0,0,0,0,28761,-63128\nWPQ,9S8,88,1100,0,0,0,0,0,0\n9S8,OB,88,1100,0,0,0,0,6079568,4016716\nOB,Q5,88,1100,0,0,0,0,1614272,-4458432\nQ5,E,88,1100,0,0,0,0,26092,19800\nE,7,88,1100,0,0,0,0,0,0\n7,F6,0,0,0,0,0,0,0,0\nOB,V5RQ,0,0,0,0,0,0,0,0\n\nsweeps,source_p,source_q,drawn_p,drawn_q,lost_p,lost_q\n3,79588593,-790378185,62367562,-787579533,16982328,-2779675\n") ≡ Fail ReportLayout
+unfolding opened
+v1-00449 = refl
+
+-- S-1, 00483-repmangle
+v1-00483 : checkOf (bytes "source,va_re,va_im,vb_re,vb_im,vc_re,vc_im,tol,sweeps\n14,318088,-645926,-716188,73988,400458,598605,5,5\n\nfrom,to,phases,kind,p1,p2,p3,p4,p5,p6,p7,p8,p9,p10,p11,p12\n14,SJU,ABC,D,103923,1000,1036,2486,2017,2717,756,2723,0,0,0,0\n14,J4X,ABC,D,1000000,52486,136,341,202,385,419,316,0,0,0,0\n\nnode,phase,kind,vn,p,q\n14,CA,I,1182797,148,46\nSJU,A,Z,12704,8,-1\nJ4X,CA,P,2208300,91,9\nJ4X,C,I,65454,11,1\n14,CA,P,1290506,34681,282\nJ4X,AB,I,113370,2732,25\nSJU,BC,Z,20785,87,-11\nSJU,BC,P,20785,38,13\nSJU,B,Z,12000,0,0\n14,CA,I,1247077,41,39\nJ4X,AB,I,98271,1052,91\n14,BC,P,1247077,802,297\nJ4X,BC,Z,112433,0,-873\nSJU,A,I,10448,2,0\nSJU,A,P,12000,10,4\nSJU,B,I,12676,110,33\nSJU,B,Z,12000,5,1\n14,AB,P,4000000,-2057,10522\nJ4X,BC,P,113370,93,32\nSJU,B,Z,12000,18,21\nJ4X,B,P,64718,86,-1\n14,C,Z,720000,62,32\nSJU,BC,P,20785,1618,1099\nJ4X,C,P,59982,1,0\nJ4X,A,P,65454,2113,-509\n") (bytes "sweeps,source_p,source_q,drawn_p,drawn_q,lost_p,lost_q\n1,4194554191,1114040541,4195403980,1114474613,30638,64331\n\n\nfrom,to,ia_re,ia_im,ib_re,ib_im,ic_re,ic_im,loss_p,loss_q\n14,SJU,-37,-160,-8491,7006,7874,-6034,30638,64331\n14,J4X,1925,-6517,-1672,2511,219,814,0,0\n\nnode,va_re,va_im,vb_re,vb_im,vc_re,vc_im\n14,318088,-645926,-716188,73988,400458,598605\nSJU,-793,-11976,-9952,6927,10745,5048\nJ4X,-4323,-65320,-54285,37785,58608,27535") ≡ Fail ReportLayout
+unfolding opened
+v1-00483 = refl
+
+-- S-1, 00205-edit
+v1-00205 : checkOf (bytes "source,va_re,va_im,vb_re,vb_im,vc_re,vc_im,tol,sweeps\nS,-25078,112477,-181287,42323,174808,-198701,7,5\n\nfrom,to,phases,kind,p1,p2,p3,p4,p5,p6,p7,p8,p9,p10,p11,p12\nS,N0,ABC,Y,3,2,15000000,-15000000,-15000000,15000000,4999990,-5000000,0,0,0,0\n\nnode,phase,kind,vn,p,q\nS,AB,Z,760,2,1\n") (bytes "node,va_re,va_im,vb_re,vb_im,vc_re,vc_im\nSX,-25078,112477,-181287,42323,174808,-198701\nN0,-16719,74995,-120858,28215,116539,-132467\n\nfrom,to,ia_re,ia_im,ib_re,ib_im,ic_re,ic_im,loss_p,loss_q\nZZ9,N0,0,0,0,0,0,0,0,0\n\nsweeps,source_p,source_q,drawn_p,drawn_q,lost_p,lost_q\n1,10153369153,5076693567,10153369153,5076693567,0,0\n") ≡ Fail (NameDiffers 2)
+unfolding opened
+v1-00205 = refl
+
+-- S-1, 00012-P-BC-edit2
+v1-00012 : checkOf (bytes "source,va_re,va_im,vb_re,vb_im,vc_re,vc_im,tol,sweeps\nS,720000,0,-360000,-623538,-360000,623538,1,20\n\nfrom,to,phases,kind,p1,p2,p3,p4,p5,p6,p7,p8,p9,p10,p11,p12\nS,N1,ABC,L,300000,600000,100000,200000,90000,180000,300000,600000,80000,170000,300000,600000\n\nnode,phase,kind,vn,p,q\nN1,BC,P,1247077,90000,30000\n") (bytes "node,va_re,va_im,vb_re,vb_im,vc_re,vc_im\nS,720000,0,-360000,-623538,-360001,623538\nN1,719988,12,-360257,-623276,-359743,623276\n\nfrom,to,ia_re,ia_im,ib_re,ib_im,ic_re,ic_im,loss_p,loss_q\nS,N1,0,0,-2410,-7219,2410,7219,2544016,4973406\n\nsweeps,source_p,source_q,drawn_p,drawn_q,lost_p,lost_q\n2,9002641644,3005453160,9000097628,3000479754,2544016,4973406\n") ≡ Fail (SourceDiffers 2)
+unfolding opened
+v1-00012 = refl
+
+-- S-1, 00321-edit
+v1-00321 : checkOf (bytes "source,va_re,va_im,vb_re,vb_im,vc_re,vc_im,tol,sweeps\nS,-20,-1,27,24,-26,-37,1,20\n\nfrom,to,phases,kind,p1,p2,p3,p4,p5,p6,p7,p8,p9,p10,p11,p12\nS,N0,ABC,Y,3,6,5531,16593,-5531,5531,9175,5531,0,0,0,0\n\nnode,phase,kind,vn,p,q\nN0,AB,I,606,-1,-2\nN0,AB,Z,248,0,0\nN0,CA,Z,256,1,-2\n") (bytes "node,va_re,va_im,vb_re,vb_im,vc_re,vc_im\nS,-20,-1,27,24,-26,963\nN0,-40,-2,54,48,-52,-74\n\nfrom,to,ia_re,ia_im,ib_re,ib_im,ic_re,ic_im,loss_p,loss_q\nS,N0,101,-69,-302,215,201,-146,0,-2\n\nsweeps,source_p,source_q,drawn_p,drawn_q,lost_p,lost_q\n1,-9538,-51534,-9538,-51534,0,0\n") ≡ Fail (SourceDiffers 2)
+unfolding opened
+v1-00321 = refl
+
+-- S-1, 00053-Z-CA-edit0
+v1-00053 : checkOf (bytes "source,va_re,va_im,vb_re,vb_im,vc_re,vc_im,tol,sweeps\nS,720000,0,-360000,-623538,-360000,623538,1,20\n\nfrom,to,phases,kind,p1,p2,p3,p4,p5,p6,p7,p8,p9,p10,p11,p12\nS,N1,ABC,L,300000,600000,100000,200000,90000,180000,300000,600000,80000,170000,300000,600000\n\nnode,phase,kind,vn,p,q\nN1,CA,Z,1247077,90000,30000\n") (bytes "node,va_re,va_im,vb_re,vb_im,vc_re,vc_im\nS,720000,0,-360000,-623538,-360000,623538\nN1,719655,-92,-360027,-623542,-359655,-2000000\n\nfrom,to,ia_re,ia_im,ib_re,ib_im,ic_re,ic_im,loss_p,loss_q\nS,N1,5043,-5692,0,0,-5043,5692,2432342,4855392\n\nsweeps,source_p,source_q,drawn_p,drawn_q,lost_p,lost_q\n2,8995618296,3002857866,8993185954,2998002474,2432342,4855392\n") ≡ Fail (CurrentDiffers 6)
+unfolding opened
+v1-00053 = refl
+
+-- S-1, 00378-edit
+v1-00378 : checkOf (bytes "source,va_re,va_im,vb_re,vb_im,vc_re,vc_im,tol,sweeps\nS,-170,235,-71,137,-145,41,7,20\n\nfrom,to,phases,kind,p1,p2,p3,p4,p5,p6,p7,p8,p9,p10,p11,p12\nN0,N4,C,L,0,0,0,0,0,0,0,0,0,0,4999990,5000000\nN0,N3,C,R,0,0,9,0,0,0,0,0,0,0,0,0\nS,N0,C,R,0,0,10,0,0,0,0,0,0,0,0,0\nS,N1,ABC,R,8,6,13,0,0,0,0,0,0,0,0,0\nN1,N2,ABC,Y,6,6,-5000000,5000000,15000000,5000000,15000000,15000000,0,0,0,0\n\nnode,phase,kind,vn,p,q\nS,BC,Z,6227,0,2\n") (bytes "node,va_re,va_im,vb_re,vb_im,vc_re,vc_im\nS,-170,235,-71,137,-145,41\nN4,0,0,0,0,-155,-2000000\nN3,0,0,0,0,-164,47\nN0,0,0,0,0,-155,44\nN1,-179,247,-74,142,-158,45\nN2,-179,247,-74,142,-158,45\n\nfrom,to,ia_re,ia_im,ib_re,ib_im,ic_re,ic_im,loss_p,loss_q\nN0,N4,-1,0,0,0,0,0,0,0\nN0,N3,0,0,0,0,0,0,0,0\nS,N0,0,0,0,0,0,0,0,0\nS,N1,0,0,0,0,0,0,0,0\nN1,N2,0,0,0,0,0,0,0,-1\n\nsweeps,source_p,source_q,drawn_p,drawn_q,lost_p,lost_q\n1,0,0,0,0,0,0\n") ≡ Fail (CurrentDiffers 10)
+unfolding opened
+v1-00378 = refl
+
+-- S-1, 00060-mixed-edit1
+v1-00060 : checkOf (bytes "source,va_re,va_im,vb_re,vb_im,vc_re,vc_im,tol,sweeps\nS,720000,0,-360000,-623538,-360000,623538,1,20\n\nfrom,to,phases,kind,p1,p2,p3,p4,p5,p6,p7,p8,p9,p10,p11,p12\nS,N1,ABC,L,300000,600000,100000,200000,90000,180000,300000,600000,80000,170000,300000,600000\n\nnode,phase,kind,vn,p,q\nN1,AB,P,1247077,90000,30000\nN1,A,P,720000,5000,0\nN1,CA,I,1247077,-7000,300\nS,BC,Z,1247077,0,-5000\n") (bytes "node,va_re,va_im,vb_re,vb_im,vc_re,vc_im\nS,720000,0,-360000,-623538,-360000,623538\nN1,719912,-355,-359917,-623222,-360036,623501\n\nfrom,to,ia_re,ia_im,ib_re,ib_im,ic_re,ic_im,loss_p,loss_q\nS,N1,7653,1783,-7456,-1523,498,-260,2413857,4816864\n\nsweeps,source_p,source_q,drawn_p,drawn_q,lost_p,lost_q\n2,8802568494,2533903776,8800154637,2529086912,2413857,4816864\n") ≡ Fail (VoltageOff 3)
+unfolding opened
+v1-00060 = refl
+
+-- S-1, 00245-moved-tol+1
+v1-00245 : checkOf (bytes "source,va_re,va_im,vb_re,vb_im,vc_re,vc_im,tol,sweeps\nTEAZI1SO,12000,0,-5919,-10439,-5908,10232,2,2\n\nfrom,to,phases,kind,p1,p2,p3,p4,p5,p6,p7,p8,p9,p10,p11,p12\n2WWI,XY,B,L,0,0,0,0,0,0,11363,11206,0,0,0,0\n0F,2WWI,B,L,0,0,0,0,0,0,15673,9786,0,0,0,0\nCDCZGEB5,7IK,ABC,L,1,1,0,0,0,0,1,1,0,0,0,-1\nTEAZI1SO,0,ABC,R,-15,-6,10,0,0,0,0,0,0,0,0,0\nTEAZI1SO,HK,ABC,L,14706,6785,0,0,2135,-1910,3796,7075,4821,6294,14711,11904\nAROR,Z,B,L,0,0,0,0,0,0,27653,11507,0,0,0,0\nHK,K3LJ,ABC,Y,28263,28263,10251,7400,10316,13403,8257,8832,0,0,0,0\nK3LJ,CDCZGEB5,ABC,L,136833,-144831,36887,-40361,0,0,141091,159420,0,0,84896,159521\n7IK,3Y,ABC,L,1,1,0,0,0,0,1,-1,0,0,1,1\nXY,AROR,B,R,0,11,0,0,0,0,0,0,0,0,0,0\n3Y,Q,ABC,L,194477,-100073,109204,107014,36596,48631,112411,270197,36302,-49242,110551,-110145\nQ,0F,AB,L,17548,7420,10286,7916,0,0,24312,-11686,0,0,0,0\n\nnode,phase,kind,vn,p,q\nZ,B,P,12886,31,-8\n3Y,A,P,12000,37,37\n") (bytes "node,va_re,va_im,vb_re,vb_im,vc_re,vc_im\nTEAZI1SO,12000,0,-5919,-10439,-5908,10232\nXY,0,0,-5928,-10426,0,0\n2WWI,0,0,-5928,-10426,0,0\n7IK,12000,9,-5922,-10432,-5908,10232\n0,10971,0,-5705,-10062,-6302,10914\nHK,11999,0,-5919,-10439,-5908,10232\nZ,0,0,-6366,-11195,0,0\nK3LJ,11998,0,-5919,-10439,-5908,10232\nCDCZGEB5,12000,9,-5922,-10429,-5908,10232\n3Y,12000,9,-5922,-10432,-5908,10232\nAROR,0,0,-6366,-11196,0,0\nQ,11998,13,-5928,-10427,-5906,10233\n0F,11998,13,-5928,-10426,0,0\n\nfrom,to,ia_re,ia_im,ib_re,ib_im,ic_re,ic_im,loss_p,loss_q\n2WWI,XY,0,0,-70,-258,0,0,0,0\n0F,2WWI,0,0,-70,-258,0,0,0,0\nCDCZGEB5,7IK,309,-308,-70,-258,0,0,0,0\nTEAZI1SO,0,0,0,0,0,0,0,0,0\nTEAZI1SO,HK,309,-308,-70,-258,0,0,309,308\nAROR,Z,0,0,-65,-240,0,0,240,65\nHK,K3LJ,309,-308,-70,-258,0,0,309,308\nK3LJ,CDCZGEB5,309,-308,-70,-258,0,0,3750,-2133\n7IK,3Y,309,-308,-70,-258,0,0,0,0\nXY,AROR,0,0,-65,-240,0,0,0,0\n3Y,Q,0,0,-70,-258,0,0,870,1898\nQ,0F,0,0,-70,-258,0,0,258,70\n\nsweeps,source_p,source_q,drawn_p,drawn_q,lost_p,lost_q\n1,6815592,2899628,6805818,2898616,5736,516\n") ≡ Fail (VoltageOff 10)
+unfolding opened
+v1-00245 = refl
+
+-- S-1, 00349-moved-few
+v1-00349 : checkOf (bytes "source,va_re,va_im,vb_re,vb_im,vc_re,vc_im,tol,sweeps\nQJZ3,205630,-123759,-206548,-122221,-2644,246615,20,5\n\nfrom,to,phases,kind,p1,p2,p3,p4,p5,p6,p7,p8,p9,p10,p11,p12\nQJZ3,UXDL,C,L,0,0,0,0,0,0,0,0,0,0,764142,-920937\n\nnode,phase,kind,vn,p,q\nUXDL,C,I,267483,12535,8507\nQJZ3,AB,Z,401469,42213,-18594\nQJZ3,A,P,240000,24905,-1252\nUXDL,C,Z,240000,38542,19139\nUXDL,C,P,199224,25,0\nQJZ3,B,P,201991,165,131\nQJZ3,A,P,240000,4328,-1119\nQJZ3,B,I,234294,12452,15384\nUXDL,C,Z,240000,3,0\nUXDL,C,Z,239429,0,-6\nUXDL,C,I,240000,115,-11\nQJZ3,B,P,276994,8,-1\nQJZ3,B,Z,240000,0,-2\nUXDL,C,I,214321,872,801\nQJZ3,B,P,240000,18,11\nQJZ3,CA,Z,415692,0,-4\nUXDL,C,P,240000,367,343\nUXDL,C,P,246013,728,-1191\nQJZ3,B,P,240000,129,118\nQJZ3,C,P,240000,3,3\nQJZ3,CA,P,449152,105,5\nQJZ3,C,I,240000,30,1\nUXDL,C,P,240000,5,4\nQJZ3,A,I,240000,1325,-147\nUXDL,C,Z,246885,6852,-1454\n") (bytes "node,va_re,va_im,vb_re,vb_im,vc_re,vc_im\nQJZ3,205630,-123759,-206548,-122221,-2644,246615\nUXDL,0,0,0,0,-5709,245620\n\nfrom,to,ia_re,ia_im,ib_re,ib_im,ic_re,ic_im,loss_p,loss_q\nQJZ3,UXDL,0,0,0,0,10201,25046,55875090,-67356182\n\nsweeps,source_p,source_q,drawn_p,drawn_q,lost_p,lost_q\n2,14977170292,1971805929,14920983457,2038421924,55875090,-67356182\n") ≡ Fail (VoltageOff 3)
+unfolding opened
+v1-00349 = refl
+
+-- S-1, 00413-moved--tol-1
+v1-00413 : checkOf (bytes "source,va_re,va_im,vb_re,vb_im,vc_re,vc_im,tol,sweeps\nS,-2297,-232,3997,-432,927,70,0,50\n\nfrom,to,phases,kind,p1,p2,p3,p4,p5,p6,p7,p8,p9,p10,p11,p12\nS,N0,ABC,D,1,5,-15000000,5000000,5000000,-5000000,-5000000,5000000,0,0,0,0\nS,N1,ABC,R,12,8,-13,0,0,0,0,0,0,0,0,0\n\nnode,phase,kind,vn,p,q\n") (bytes "node,va_re,va_im,vb_re,vb_im,vc_re,vc_im\nS,-2297,-232,3997,-432,927,70\nN0,-16120,-1510,31470,-1000,-15350,2510\nN1,-2484,-251,4207,-455,857,65\n\nfrom,to,ia_re,ia_im,ib_re,ib_im,ic_re,ic_im,loss_p,loss_q\nS,N0,0,0,0,0,0,0,0,0\nS,N1,0,0,0,0,0,0,0,0\n\nsweeps,source_p,source_q,drawn_p,drawn_q,lost_p,lost_q\n42,0,0,0,0,0,0\n") ≡ Fail (VoltageOff 4)
+unfolding opened
+v1-00413 = refl
+
+-- S-1, 00480-moved--tol-1
+v1-00480 : checkOf (bytes "source,va_re,va_im,vb_re,vb_im,vc_re,vc_im,tol,sweeps\n14,318088,-645926,-716188,73988,400458,598605,5,5\n\nfrom,to,phases,kind,p1,p2,p3,p4,p5,p6,p7,p8,p9,p10,p11,p12\n14,SJU,ABC,D,103923,1000,1036,2486,2017,2717,756,2723,0,0,0,0\n14,J4X,ABC,D,1000000,52486,136,341,202,385,419,316,0,0,0,0\n\nnode,phase,kind,vn,p,q\n14,CA,I,1182797,148,46\nSJU,A,Z,12704,8,-1\nJ4X,CA,P,2208300,91,9\nJ4X,C,I,65454,11,1\n14,CA,P,1290506,34681,282\nJ4X,AB,I,113370,2732,25\nSJU,BC,Z,20785,87,-11\nSJU,BC,P,20785,38,13\nSJU,B,Z,12000,0,0\n14,CA,I,1247077,41,39\nJ4X,AB,I,98271,1052,91\n14,BC,P,1247077,802,297\nJ4X,BC,Z,112433,0,-873\nSJU,A,I,10448,2,0\nSJU,A,P,12000,10,4\nSJU,B,I,12676,110,33\nSJU,B,Z,12000,5,1\n14,AB,P,4000000,-2057,10522\nJ4X,BC,P,113370,93,32\nSJU,B,Z,12000,18,21\nJ4X,B,P,64718,86,-1\n14,C,Z,720000,62,32\nSJU,BC,P,20785,1618,1099\nJ4X,C,P,59982,1,0\nJ4X,A,P,65454,2113,-509\n") (bytes "node,va_re,va_im,vb_re,vb_im,vc_re,vc_im\n14,318088,-645926,-716188,73988,400458,598605\nSJU,-799,-11976,-9948,6928,10743,5046\nJ4X,-4323,-65320,-54285,37785,58608,27535\n\nfrom,to,ia_re,ia_im,ib_re,ib_im,ic_re,ic_im,loss_p,loss_q\n14,SJU,-37,-160,-8490,7010,7874,-6037,30624,64352\n14,J4X,1925,-6517,-1672,2511,219,814,0,0\n\nsweeps,source_p,source_q,drawn_p,drawn_q,lost_p,lost_q\n5,4194628179,1114756729,4195376190,1114488271,30624,64352\n") ≡ Fail (VoltageOff 3)
+unfolding opened
+v1-00480 = refl
+
+-- S-1, 00064-mixed-edit5
+v1-00064 : checkOf (bytes "source,va_re,va_im,vb_re,vb_im,vc_re,vc_im,tol,sweeps\nS,720000,0,-360000,-623538,-360000,623538,1,20\n\nfrom,to,phases,kind,p1,p2,p3,p4,p5,p6,p7,p8,p9,p10,p11,p12\nS,N1,ABC,L,300000,600000,100000,200000,90000,180000,300000,600000,80000,170000,300000,600000\n\nnode,phase,kind,vn,p,q\nN1,AB,P,1247077,90000,30000\nN1,A,P,720000,5000,0\nN1,CA,I,1247077,-7000,300\nS,BC,Z,1247077,0,-5000\n") (bytes "node,va_re,va_im,vb_re,vb_im,vc_re,vc_im\nS,720000,0,-360000,-623538,-360000,623538\nN1,719912,-355,-359917,-623222,-360034,623501\n\nfrom,to,ia_re,ia_im,ib_re,ib_im,ic_re,ic_im,loss_p,loss_q\nS,N1,7653,1783,-7456,-1523,498,-260,2413857,0\n\nsweeps,source_p,source_q,drawn_p,drawn_q,lost_p,lost_q\n2,8802568494,2533903776,8800154637,2529086912,2413857,4816864\n") ≡ Fail TotalDiffers
+unfolding opened
+v1-00064 = refl
+
+-- S-1, 00431-edit
+v1-00431 : checkOf (bytes "source,va_re,va_im,vb_re,vb_im,vc_re,vc_im,tol,sweeps\nS,-30,17,5,-33,-35,-32,2,50\n\nfrom,to,phases,kind,p1,p2,p3,p4,p5,p6,p7,p8,p9,p10,p11,p12\nS,N0,BC,R,0,15,-2,0,0,0,0,0,0,0,0,0\n\nnode,phase,kind,vn,p,q\nS,B,I,5903,1,0\n") (bytes "node,va_re,va_im,vb_re,vb_im,vc_re,vc_im\nS,-30,17,5,-33,-35,-32\nN0,0,0,6,-36,-35,-32\n\nfrom,to,ia_re,ia_im,ib_re,ib_im,ic_re,ic_im,loss_p,loss_q\nS,N0,0,0,0,0,0,0,0,0\n\nsweeps,source_p,source_q,drawn_p,drawn_q,lost_p,lost_q\n1,576,-14,576,-14,0,-2000000\n") ≡ Fail TotalDiffers
+unfolding opened
+v1-00431 = refl

@@ -180,3 +180,13 @@ v00959 = refl
 v01058 : studyOf (bytes "source,va_re,va_im,vb_re,vb_im,vc_re,vc_im,tol,sweeps\nG,717453,30475,-333214,-638254,-386137,607699,0,1\n\nfrom,to,phases,kind,p1,p2,p3,p4,p5,p6,p7,p8,p9,p10,p11,p12\nG,K9,ABC,L,7645776,26678677,0,0,12359378,8394887,27082232,-24433118,6389566,-12130009,27877669,1\r\n\nnode,phase,kind,vn,p,q\nG,B,Z,720000,42190,15913\nG,A,I,720000,104,102\nK9,C,P,720000,278,136\nG,C,I,604114,23137,2054\nG,A,I,720000,53,-6\n") 1000000 ≡ NoReport (Layout 5)
 unfolding opened
 v01058 = refl
+
+-- S-1, 00094-word-ab
+v1-00094 : studyOf (bytes "source,va_re,va_im,vb_re,vb_im,vc_re,vc_im,tol,sweeps\nS,720000,0,-360000,-623538,-360000,623538,1,20\n\nfrom,to,phases,kind,p1,p2,p3,p4,p5,p6,p7,p8,p9,p10,p11,p12\nS,N1,ABC,L,0,0,0,0,0,0,0,0,0,0,0,0\n\nnode,phase,kind,vn,p,q\nN1,ab,Z,720000,1,0\n") 1000000 ≡ NoReport (Layout 8)
+unfolding opened
+v1-00094 = refl
+
+-- S-1, 00501-faults
+v1-00501 : studyOf (bytes "source,va_re,va_im,vb_re,vb_im,vc_re,vc_im,tol,sweeps\nÄ,1207483,0,-539015,-1096862,-763944,896364,1,-999999999999999999\n\nfrom,to,phases,kind,p1,p2,p3,p4,p5,p6,p7,p8,p9,p10,p11,p12\nUJKX,W2OY,ABC,Y,100000,1000,45201361,56147314,34193216,88377464,70593683,24214118,0,0,0,0\n\nnode,phase,kind,vn,p,q\n") 1000000 ≡ NoReport (Layout 2)
+unfolding opened
+v1-00501 = refl

@@ -120,3 +120,28 @@ v00289 = refl
 v01120 : studyOf (bytes "source,va_re,va_im,vb_re,vb_im,vc_re,vc_im,tol,sweeps\nS,1000000,0,-500000,-866000,-500000,866000,1,100\n\nfrom,to,phases,kind,p1,p2,p3,p4,p5,p6,p7,p8,p9,p10,p11,p12\nS,N0,A,L,16569205,48707893,0,0,0,0,0,0,0,0,0,0\n\nnode,phase,kind,vn,p,q\nN0,A,P,1000000,498528,192797\n") 0 ≡ NoReport (BufferShort 348)
 unfolding opened
 v01120 = refl
+
+-- S-1, 00281-faults
+v1-00281 : studyOf (bytes "source,va_re,va_im,vb_re,vb_im,vc_re,vc_im,tol,sweeps\nS,0,0,0,-1924999,0,0,1,5\n\nfrom,to,phases,kind,p1,p2,p3,p4,p5,p6,p7,p8,p9,p10,p11,p12\nS,N,ABC,Y,5,4,0,0,0,0,0,0,0,-999999999999999999,0,0\n\nnode,phase,kind,vn,p,q\nN,A,Z,2000000,73,-34\nN,AB,Z,3464102,99,79\nN,A,Z,0,41,58\n") 1000000 ≡ NoReport (OutOfLimit 10)
+unfolding opened
+v1-00281 = refl
+
+-- S-1, 00102-23-B-CA
+v1-00102 : studyOf (bytes "source,va_re,va_im,vb_re,vb_im,vc_re,vc_im,tol,sweeps\nS,720000,0,-360000,-623538,-360000,623538,1,20\n\nfrom,to,phases,kind,p1,p2,p3,p4,p5,p6,p7,p8,p9,p10,p11,p12\nS,N1,B,L,0,0,0,0,0,0,0,0,0,0,0,0\n\nnode,phase,kind,vn,p,q\nN1,CA,Z,720000,1,0\n") 1000000 ≡ NoReport (PhaseAbsent 8)
+unfolding opened
+v1-00102 = refl
+
+-- S-1, 00130-30-equal-phases-P
+v1-00130 : studyOf (bytes "source,va_re,va_im,vb_re,vb_im,vc_re,vc_im,tol,sweeps\nS,500000,7,500000,7,0,0,1,20\n\nfrom,to,phases,kind,p1,p2,p3,p4,p5,p6,p7,p8,p9,p10,p11,p12\n\nnode,phase,kind,vn,p,q\nS,AB,P,720000,1,0\n") 1000000 ≡ NoReport (ZeroVoltage 1)
+unfolding opened
+v1-00130 = refl
+
+-- S-1, 00173-32-two-rows-1000001
+v1-00173 : studyOf (bytes "source,va_re,va_im,vb_re,vb_im,vc_re,vc_im,tol,sweeps\nS,50000,0,-50000,0,-50000,0,1,20\n\nfrom,to,phases,kind,p1,p2,p3,p4,p5,p6,p7,p8,p9,p10,p11,p12\nS,N,ABC,L,0,0,0,0,0,0,0,0,0,0,0,0\n\nnode,phase,kind,vn,p,q\nN,AB,P,100000,1000001,0\nN,CA,P,100000,1000001,0\n") 1000000 ≡ NoReport (CurrentBeyond 1)
+unfolding opened
+v1-00173 = refl
+
+-- S-1, 00340-rand
+v1-00340 : studyOf (bytes "source,va_re,va_im,vb_re,vb_im,vc_re,vc_im,tol,sweeps\nS,1000000,0,-500000,-866000,-500000,866000,0,10\n\nfrom,to,phases,kind,p1,p2,p3,p4,p5,p6,p7,p8,p9,p10,p11,p12\nS,N0,A,L,49555427,37772899,0,0,0,0,0,0,0,0,0,0\n\nnode,phase,kind,vn,p,q\nN0,A,P,1000000,361053,5704\n") 1000000 ≡ NoReport (NotSettled 10)
+unfolding opened
+v1-00340 = refl

@@ -84,3 +84,38 @@ v01123 = refl
 v01157 : fitted (bytes "source,va_re,va_im,vb_re,vb_im,vc_re,vc_im,tol,sweeps\nR6,720000,0,-360000,-623538,-380280,598000,5,5\n\nfrom,to,phases,kind,p1,p2,p3,p4,p5,p6,p7,p8,p9,p10,p11,p12\nHK,245JJGXH,ABC,D,1732,1000,1,0,0,0,0,1,0,0,0,0\nR6,FF,ABC,L,89793875,68083564,35402481,24698792,23005719,-25273927,54856442,45922780,11180273,26319906,66767897,76269334\nR6,HK,ABC,R,14,8,12,0,0,0,0,0,0,0,0,0\n\nnode,phase,kind,vn,p,q\nFF,B,Z,720000,18579,8331\nR6,A,Z,720000,2957,145\nFF,C,I,720000,9,-2\nFF,C,P,859421,799,-127\n245JJGXH,A,I,774911,190660,-20611\nHK,A,I,774888,10,6\nR6,A,P,720000,34237,-1046\nHK,C,Z,624673,130965,52089\n") 1000000 ≡ good (record { text = bytes "node,va_re,va_im,vb_re,vb_im,vc_re,vc_im\nR6,720000,0,-360000,-623538,-380280,598000\n245JJGXH,692930,-373260,-674358,-378958,-18572,752218\nFF,723954,10803,-354715,-604381,-380816,605686\nHK,789041,0,-378947,-656356,-411114,646486\n\nfrom,to,ia_re,ia_im,ib_re,ib_im,ic_re,ic_im,loss_p,loss_q\nHK,245JJGXH,22923,-9327,0,0,0,0,0,0\nR6,FF,0,0,-2243,-1596,-75,86,41727631,35064645\nR6,HK,13236,-5386,0,0,-18403,32570,0,0\n\nsweeps,source_p,source_q,drawn_p,drawn_q,lost_p,lost_q\n4,44667564248,6464158894,44625966530,6429427782,41727631,35064645\n"; sweeps = 4 })
 unfolding opened
 v01157 = refl
+
+-- S-1, 00050-Z-CA
+v1-00050 : fitted (bytes "source,va_re,va_im,vb_re,vb_im,vc_re,vc_im,tol,sweeps\nS,720000,0,-360000,-623538,-360000,623538,1,20\n\nfrom,to,phases,kind,p1,p2,p3,p4,p5,p6,p7,p8,p9,p10,p11,p12\nS,N1,ABC,L,300000,600000,100000,200000,90000,180000,300000,600000,80000,170000,300000,600000\n\nnode,phase,kind,vn,p,q\nN1,CA,Z,1247077,90000,30000\n") 1000000 ≡ good (record { text = bytes "node,va_re,va_im,vb_re,vb_im,vc_re,vc_im\nS,720000,0,-360000,-623538,-360000,623538\nN1,719655,-92,-360027,-623542,-359655,623630\n\nfrom,to,ia_re,ia_im,ib_re,ib_im,ic_re,ic_im,loss_p,loss_q\nS,N1,5043,-5692,0,0,-5043,5692,2432342,4855392\n\nsweeps,source_p,source_q,drawn_p,drawn_q,lost_p,lost_q\n2,8995618296,3002857866,8993185954,2998002474,2432342,4855392\n"; sweeps = 2 })
+unfolding opened
+v1-00050 = refl
+
+-- S-1, 00124-23-ABC-BC
+v1-00124 : fitted (bytes "source,va_re,va_im,vb_re,vb_im,vc_re,vc_im,tol,sweeps\nS,720000,0,-360000,-623538,-360000,623538,1,20\n\nfrom,to,phases,kind,p1,p2,p3,p4,p5,p6,p7,p8,p9,p10,p11,p12\nS,N1,ABC,L,0,0,0,0,0,0,0,0,0,0,0,0\n\nnode,phase,kind,vn,p,q\nN1,BC,Z,720000,1,0\n") 1000000 ≡ good (record { text = bytes "node,va_re,va_im,vb_re,vb_im,vc_re,vc_im\nS,720000,0,-360000,-623538,-360000,623538\nN1,720000,0,-360000,-623538,-360000,623538\n\nfrom,to,ia_re,ia_im,ib_re,ib_im,ic_re,ic_im,loss_p,loss_q\nS,N1,0,0,0,0,0,0,0,0\n\nsweeps,source_p,source_q,drawn_p,drawn_q,lost_p,lost_q\n1,0,0,0,0,0,0\n"; sweeps = 1 })
+unfolding opened
+v1-00124 = refl
+
+-- S-1, 00156-31-CA-2000000
+v1-00156 : fitted (bytes "source,va_re,va_im,vb_re,vb_im,vc_re,vc_im,tol,sweeps\nS,50000,0,0,0,-50000,0,1,20\n\nfrom,to,phases,kind,p1,p2,p3,p4,p5,p6,p7,p8,p9,p10,p11,p12\n\nnode,phase,kind,vn,p,q\nS,CA,P,100000,2000000,0\n") 1000000 ≡ good (record { text = bytes "node,va_re,va_im,vb_re,vb_im,vc_re,vc_im\nS,50000,0,0,0,-50000,0\n\nfrom,to,ia_re,ia_im,ib_re,ib_im,ic_re,ic_im,loss_p,loss_q\n\nsweeps,source_p,source_q,drawn_p,drawn_q,lost_p,lost_q\n1,200000000000,0,200000000000,0,0,0\n"; sweeps = 1 })
+unfolding opened
+v1-00156 = refl
+
+-- S-1, 00223-rand
+v1-00223 : fitted (bytes "source,va_re,va_im,vb_re,vb_im,vc_re,vc_im,tol,sweeps\nS,1800000,0,-900000,-1558800,-900000,1558800,30,100\n\nfrom,to,phases,kind,p1,p2,p3,p4,p5,p6,p7,p8,p9,p10,p11,p12\nS,N0,ABC,L,-100000000,100000000,-25000000,25000000,0,0,-100000000,100000000,0,0,-100000000,100000000\n\nnode,phase,kind,vn,p,q\nN0,AB,I,3117691,377960,-143886\nN0,B,P,1800000,403935,19821\nN0,CA,Z,3117691,0,-199602\nN0,C,Z,1800000,364611,174972\n") 1000000 ≡ good (record { text = bytes "node,va_re,va_im,vb_re,vb_im,vc_re,vc_im\nS,1800000,0,-900000,-1558800,-900000,1558800\nN0,1958645,20905,-1295208,-1571743,-740520,1765880\n\nfrom,to,ia_re,ia_im,ib_re,ib_im,ic_re,ic_im,loss_p,loss_q\nS,N0,12443,15018,-22224,-24162,-2380,18328,-14799602223,14799579999\n\nsweeps,source_p,source_q,drawn_p,drawn_q,lost_p,lost_q\n7,110774412000,-1350172800,125574014223,-16149752799,-14799602223,14799579999\n"; sweeps = 7 })
+unfolding opened
+v1-00223 = refl
+
+-- S-1, 00324-rand
+v1-00324 : fitted (bytes "source,va_re,va_im,vb_re,vb_im,vc_re,vc_im,tol,sweeps\nS,1800000,0,-900000,-1558800,-900000,1558800,0,100\n\nfrom,to,phases,kind,p1,p2,p3,p4,p5,p6,p7,p8,p9,p10,p11,p12\nS,N0,A,L,100000000,100000000,0,0,0,0,0,0,0,0,0,0\nN0,N1,A,R,-1,0,0,0,0,0,0,0,0,0,0,0\n\nnode,phase,kind,vn,p,q\nN1,A,P,1800000,85343,34386\nN1,A,Z,1800000,0,-12676\n") 1000000 ≡ good (record { text = bytes "node,va_re,va_im,vb_re,vb_im,vc_re,vc_im\nS,1800000,0,-900000,-1558800,-900000,1558800\nN0,1737090,-34790,0,0,0,0\nN1,1726301,-34574,0,0,0,0\n\nfrom,to,ia_re,ia_im,ib_re,ib_im,ic_re,ic_im,loss_p,loss_q\nS,N0,4885,-1406,0,0,0,0,258400610,258400610\nN0,N1,4916,-1415,0,0,0,0,0,0\n\nsweeps,source_p,source_q,drawn_p,drawn_q,lost_p,lost_q\n5,8793000000,2530800000,8535417926,2272750131,258400610,258400610\n"; sweeps = 5 })
+unfolding opened
+v1-00324 = refl
+
+-- S-1, 00417-rand
+v1-00417 : fitted (bytes "source,va_re,va_im,vb_re,vb_im,vc_re,vc_im,tol,sweeps\nX2,81,0,-37,-66,-39,74,20,50\n\nfrom,to,phases,kind,p1,p2,p3,p4,p5,p6,p7,p8,p9,p10,p11,p12\nX2,5KWH,ABC,L,244,69,37,107,94,-72,267,236,84,27,161,-252\n5KWH,92,ABC,L,0,0,0,0,0,0,1,-1,0,0,1,1\n\nnode,phase,kind,vn,p,q\n92,C,P,79,12,14\nX2,CA,P,137,0,0\n5KWH,AB,Z,137,0,0\n5KWH,A,Z,79,0,0\n5KWH,B,I,79,0,0\n") 1000000 ≡ good (record { text = bytes "node,va_re,va_im,vb_re,vb_im,vc_re,vc_im\nX2,81,0,-37,-66,-39,74\n5KWH,81,0,-37,-66,-39,74\n92,81,0,-37,-66,-39,74\n\nfrom,to,ia_re,ia_im,ib_re,ib_im,ic_re,ic_im,loss_p,loss_q\nX2,5KWH,0,0,0,0,8118,20494,8118,-20494\n5KWH,92,0,0,0,0,8118,20494,0,0\n\nsweeps,source_p,source_q,drawn_p,drawn_q,lost_p,lost_q\n1,1199954,1399998,1199954,1399998,8118,-20494\n"; sweeps = 1 })
+unfolding opened
+v1-00417 = refl
+
+-- S-1, 00491-rand
+v1-00491 : fitted (bytes "source,va_re,va_im,vb_re,vb_im,vc_re,vc_im,tol,sweeps\nS,103,208,-257,-277,74,6,0,20\n\nfrom,to,phases,kind,p1,p2,p3,p4,p5,p6,p7,p8,p9,p10,p11,p12\nS,N0,ABC,Y,5,5,-5000000,-4079422,5000000,5150981,2306961,15000000,0,0,0,0\nN0,N3,ABC,D,5,2,-15000000,559177,5000000,9785380,5000000,4656983,0,0,0,0\nS,N4,AB,R,-12,-7,0,0,0,0,0,0,0,0,0,0\nN0,N2,C,L,0,0,0,0,0,0,0,0,0,0,4999990,5000000\nN0,N1,B,R,0,11,0,0,0,0,0,0,0,0,0,0\n\nnode,phase,kind,vn,p,q\n") 1000000 ≡ good (record { text = bytes "node,va_re,va_im,vb_re,vb_im,vc_re,vc_im\nS,103,208,-257,-277,74,6\nN0,103,208,-257,-277,74,6\nN3,12,81,-144,-194,132,113\nN4,96,193,-246,-265,0,0\nN2,0,0,0,0,74,6\nN1,0,0,-276,-297,0,0\n\nfrom,to,ia_re,ia_im,ib_re,ib_im,ic_re,ic_im,loss_p,loss_q\nS,N0,0,0,0,0,0,0,0,0\nN0,N3,0,0,0,0,0,0,0,0\nS,N4,0,0,0,0,0,0,0,0\nN0,N2,0,0,0,0,0,0,0,0\nN0,N1,0,0,0,0,0,0,0,0\n\nsweeps,source_p,source_q,drawn_p,drawn_q,lost_p,lost_q\n1,0,0,0,0,0,0\n"; sweeps = 1 })
+unfolding opened
+v1-00491 = refl

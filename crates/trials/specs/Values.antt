@@ -20,6 +20,7 @@ use Rattle.feeder.specs.declared.Load.{Load}
 use Rattle.feeder.specs.declared.LoadKind.{LoadKind}
 use Rattle.feeder.specs.declared.LoadKind.the-variants.{Power, Current, Impedance}
 use Rattle.feeder.specs.declared.Phase.the-variants.{A}
+use Rattle.feeder.specs.declared.Terminals.the-variants.{OnA}
 use Rattle.feeder.specs.declared.Three.{Three}
 use Rattle.equations.specs.Equations.{at, currentAt, takenOf, throughOf, zero3}
 use Rattle.trials.specs.Opened.{opened}
@@ -33,7 +34,7 @@ abbrev pub real : ℤ → Pair
 real x = pair x (pos 0)
 
 abbrev pub load : LoadKind → ℤ → ℤ → ℤ → Load
-load k vn p q = record { node = 0; phase = A; kind = k; vn = vn; s = pair p q }
+load k vn p q = record { node = 0; phase = OnA; kind = k; vn = vn; s = pair p q }
 
 abbrev pub regulator : ℤ → Device
 regulator tap = Regulator (record { a = tap; b = pos 0; c = pos 0 })

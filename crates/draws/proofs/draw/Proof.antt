@@ -9,9 +9,10 @@ use Rattle.arrays.specs.Arrays.{loadsOf, threesOf}
 use Rattle.draws.proofs.Summing.{Summed, all-rows, firstRows, row-within, rowDrawn, rows-next, spreadOf, summed-draws, summed-next, summed-none, summed-small}
 use Rattle.draws.specs.Draws.{SmallDraws, rowOf}
 use Rattle.draws.specs.declared.Draws.{Draws}
-use Rattle.equations.specs.Equations.{mix, phaseSigns, plus3, voltageOn}
+use Rattle.equations.specs.Equations.{mix, plus3, voltageOn}
 use Rattle.equations.specs.Limits.{LoadOk, drawn-within}
 use Rattle.equations.specs.Sizes.{Within3, spread-within, within3-more}
+use Rattle.feeder.specs.Feeder.{phaseSigns}
 use Rattle.feeder.specs.Network.{noLoad}
 use Rattle.feeder.specs.declared.Load.{Load}
 use Rattle.feeder.specs.declared.Three.{Three}
@@ -92,7 +93,7 @@ row-at-requires : tie.Need-row-at-requires Inv-loop μ-loop
 row-at-requires c κs = (limits (c .before), at-node c)
 
 spread-requires : tie.Need-spread-requires Inv-loop μ-loop
-spread-requires c κs = search needs
+spread-requires c κs = current-small (c .before)
 
 three-at-requires-2 : tie.Need-three-at-requires-2 Inv-loop μ-loop
 three-at-requires-2 c κs = let h = place (turn (c .before .before .before)) in omega arith

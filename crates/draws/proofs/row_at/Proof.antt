@@ -2,7 +2,8 @@
 use mathlib.Core.Path.{_∙_, _≡_, ap, sym}
 use borrow.Author.Needs.{needs}
 use Rattle.draws.specs.Draws.{rowOf}
-use Rattle.equations.specs.Equations.{mix, phaseSigns}
+use Rattle.equations.specs.Equations.{mix}
+use Rattle.feeder.specs.Feeder.{phaseSigns}
 use Rattle.loads.specs.Loads.{drawnBy}
 use Rattle.loads.specs.declared.Drawn.{Drawn}
 use Rattle.draws.proofs.row_at.Statement.{statement}

@@ -1,4 +1,4 @@
--- `load_current` meets its contract: what is drawn is drawn at the voltage on the row's phase. Assumes nothing.
+-- `load_current` meets its contract: what is drawn is drawn at the voltage at which the row stands. Assumes nothing.
 use mathlib.Core.Path.{_∙_, ap}
 use borrow.Author.Needs.{needs}
 use Rattle.equations.specs.Sizes.{mix-phase-within}

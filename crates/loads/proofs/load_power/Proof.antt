@@ -1,4 +1,4 @@
--- `load_power` meets its contract: the product is that of the voltage on the row's phase. Assumes nothing.
+-- `load_power` meets its contract: the product is that of the voltage at which the row stands. Assumes nothing.
 use mathlib.Core.Path.{_∙_, ap}
 use borrow.Author.Needs.{needs}
 use Rattle.equations.specs.Sizes.{mix-phase-within}
@@ -14,7 +14,7 @@ voltage-on-requires c κs = search needs
 mul-conj-requires : tie.Need-mul-conj-requires
 mul-conj-requires c κs =
     let s = c .before in
-    let k : Within 2000000 (c .voltage-on .result) = rw (c .voltage-on .ensures) (mix-phase-within (s .args .l .phase) (s .pre .0)) in
+    let k : Within 4000000 (c .voltage-on .result) = rw (c .voltage-on .ensures) (mix-phase-within (s .args .l .phase) (s .pre .0)) in
     room k (s .pre .1) tt
 
 returns : tie.Need-returns

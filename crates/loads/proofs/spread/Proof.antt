@@ -1,33 +1,22 @@
--- `spread` meets its contract: a row of signs that chooses a phase leaves the others 0. Assumes nothing.
-use mathlib.Core.Path.{_∙_, _≡_, ap, sym}
+-- `spread` meets its contract: the row's signs are those of its terminals. Assumes nothing.
+use mathlib.Core.Path.{_∙_, ap, sym, subst}
 use borrow.Author.Needs.{needs}
-use Rattle.equations.specs.Equations.{each, phaseSigns, signAt}
-use Rattle.equations.specs.Sizes.{only, spread-phase}
-use Rattle.feeder.specs.declared.Phase.{Phase}
+use Rattle.equations.specs.Equations.{each, signAt}
+use Rattle.equations.specs.Sizes.{SignsOk, phase-ok}
+use Rattle.feeder.specs.declared.Signs.{Signs}
+use Rattle.integers.specs.PairLaws.{within-more}
 use Rattle.integers.specs.Pairs.{scaled}
 use Rattle.loads.proofs.spread.Statement.{statement}
 use Rattle.loads.proofs.spread.Tie as tie
 
-arm : (s : tie.Start) {p : Phase} → s .args .l .phase ≡ p → only p (s .args .i) ≡ each (λ j. scaled (signAt (phaseSigns (s .args .l .phase)) j) (s .args .i))
-arm s e = sym (spread-phase (s .args .l .phase) (s .args .i) ∙ ap (λ (p : Phase). only p (s .args .i)) e)
+signs-of-requires : tie.Need-signs-of-requires
+signs-of-requires c κs = search needs
 
-enum-told : tie.Need-enum-told
-enum-told c = search needs
-
-enum-told-2 : tie.Need-enum-told-2
-enum-told-2 c = search needs
-
-enum-told-3 : tie.Need-enum-told-3
-enum-told-3 c = search needs
+spread-requires : tie.Need-spread-requires
+spread-requires c κs = (subst SignsOk (sym (c .signs-of .ensures)) (phase-ok (c .before .args .l .phase)), within-more (c .before .pre) tt)
 
 returns : tie.Need-returns
-returns c = arm (c .before .before) (c .enum-told .given .1)
-
-returns-2 : tie.Need-returns-2
-returns-2 c = arm (c .before .before) (c .enum-told2 .given .1)
-
-returns-3 : tie.Need-returns-3
-returns-3 c = arm (c .before .before) (c .enum-told3 .given .1)
+returns c = c .spread .ensures ∙ ap (λ (s : Signs). each (λ p. scaled (signAt s p) (c .before .before .args .i))) (c .before .signs-of .ensures)
 
 pub spread-spec : {M : Type 1} → statement M
-spread-spec = tie.close (tie.spec enum-told enum-told-2 enum-told-3 returns returns-2 returns-3)
+spread-spec = tie.close (tie.spec signs-of-requires spread-requires returns)

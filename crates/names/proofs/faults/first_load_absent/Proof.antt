@@ -7,7 +7,7 @@ use borrow.Author.Needs.{needs}
 use lib.ListN.{getD, length, take}
 use Rattle.answers.specs.declared.Found.the-variants.{At}
 use Rattle.arrays.specs.Arrays.{branchesOf, loadsOf}
-use Rattle.feeder.specs.Feeder.{firstRow, has}
+use Rattle.feeder.specs.Feeder.{allOf, firstRow, standsOn}
 use Rattle.feeder.specs.Network.{noLoad}
 use Rattle.feeder.specs.declared.Load.{Load}
 use Rattle.feeder.specs.declared.Phases.{Phases}
@@ -55,8 +55,8 @@ phases-at-requires c κs = search needs
 node-phases-requires : tie.Need-node-phases-requires Inv-loop μ-loop
 node-phases-requires c κs = search needs
 
-has-phase-requires : tie.Need-has-phase-requires Inv-loop μ-loop
-has-phase-requires c κs = search needs
+has-phases-requires : tie.Need-has-phases-requires Inv-loop μ-loop
+has-phases-requires c κs = search needs
 
 add-t15 : tie.Need-add-t15 Inv-loop μ-loop
 add-t15 c = search needs
@@ -65,16 +65,16 @@ add-t16 : tie.Need-add-t16 Inv-loop μ-loop
 add-t16 c = search needs
 
 -- the test at the load's node is that of the definition
-tested : (c : tie.After-has-phase Inv-loop μ-loop) →
+tested : (c : tie.After-has-phases Inv-loop μ-loop) →
     let a = c .before .before .before .before .before .before .before .args in
     let i = c .before .before .before .before .before .before .loop .i in
-    loadAbsent (branchesOf (a .branches .now)) (i + 1) (getD (loadsOf (a .loads .now)) i noLoad) ≡ not (c .has-phase .result)
+    loadAbsent (branchesOf (a .branches .now)) (i + 1) (getD (loadsOf (a .loads .now)) i noLoad) ≡ not (c .has-phases .result)
 unfolding loadAbsent
 tested c =
     let bs = branchesOf (c .before .before .before .before .before .before .before .args .branches .now) in
     let l = c .before .before .before .before .load-at .result in
     sym (ap (λ (x : Load). loadAbsent bs (c .before .before .before .before .before .before .loop .i + 1) x) (c .before .before .before .before .load-at .ensures))
-    ∙ ap not (sym (c .has-phase .ensures ∙ ap (λ (f : Phases). has f (l .phase)) (c .before .node-phases .ensures ∙ ap (λ (f : Phases). nodePhases (l .node) f) (c .before .before .phases-at .ensures))))
+    ∙ ap not (sym (c .has-phases .ensures ∙ ap (allOf (standsOn (l .phase))) (c .before .node-phases .ensures ∙ ap (λ (f : Phases). nodePhases (l .node) f) (c .before .before .phases-at .ensures))))
 
 returns-2 : tie.Need-returns-2 Inv-loop μ-loop
 returns-2 c = λ long past.
@@ -116,7 +116,7 @@ first-load-absent-spec =
     returns
     phases-at-requires
     node-phases-requires
-    has-phase-requires
+    has-phases-requires
     add-t15
     add-t16
     returns-2

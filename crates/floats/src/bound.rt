@@ -1,0 +1,192 @@
+// How far a report may lie from the solution in floats. The study's numbers differ from that for three reasons only:
+//
+// - a voltage or a current is rounded: re and im each move by at most 1/2, so a phasor by at most the root of 1/2. A voltage is rounded once on its way
+//   through a line or a regulator and twice through a transformer; a current once in a load, a regulator or a transformer;
+// - the whole root in a load of constant current is less than 1 below the root;
+// - the reported voltages are those before the last sweep, which moved re and im by at most tol, so a phasor by at most the root of 2 times tol.
+//
+// The bound on a voltage or a current is the largest length to which these can add up. It is worked by the solver's sweeps, with lengths in the place of
+// phasors and no minus, so that nothing cancels (component.rt). The same holds of a load between two phases: the voltage across it is off by at most the sum of
+// what its two phases are off by, each of which the last sweep has moved, and what its current is off by counts in full, with no minus, on both phases.
+//
+// Where the voltage across a load is off by e, its current is off by its slope times e and its own rounding. With V the voltage across it in floats and W the
+// reported one, the slope is |S| / (|V|·|W|) for constant power, at most 2·|S| / (vn·(|V| + |W|)) for constant current, and |S| / vn² for constant impedance.
+// Where these sweeps settle, no report that follows documents 01 and 02 is further off: what a report is off by is at most one more sweep of itself. Where they
+// do not, as near a collapse of the voltage, there is no bound.
+use crate::component::Quantity;
+use crate::component::rounding;
+use crate::phasor::Phasor;
+use crate::phasor::PhasorRows;
+use crate::phasor::Phasors;
+use crate::phasor::add_at;
+use crate::phasor::length;
+use crate::phasor::no_phasors;
+use crate::phasor::phasor_of;
+use crate::phasor::phasors_at;
+use crate::phasor::phasors_of;
+use crate::phasor::real;
+use crate::phasor::root;
+use crate::solver::load_count;
+use crate::solver::place;
+use crate::solver::sweep;
+use crate::solver::voltage_across;
+use arrays::Threes;
+use arrays::three_at;
+use feeder::Load;
+use feeder::LoadKind;
+use feeder::Network;
+use feeder::Terminals;
+use feeder::Three;
+
+// Whether there are bounds, and what is added to those on the voltages for the last sweep's movement.
+pub struct Bounds {
+    pub found: bool,
+    pub moved: f64,
+}
+
+// How far the current of a load is off where the voltage across it is off by at most e: its slope times e, its rounding, and for constant current its whole root.
+fn load_bound(l: Load, solved: Phasor, reported: Phasor, e: f64) -> f64 {
+    let kind = l.kind;
+    let s = 100000.0 * length(phasor_of(l.s));
+    let vn = real(l.vn);
+    let v = length(solved);
+    let w = length(reported);
+    match kind {
+        LoadKind::Power => s / (v * w) * e + rounding(),
+        LoadKind::Current => {
+            let least_root = if w < 2.0 { 1.0 } else { w - 1.0 };
+            2.0 * s / (vn * (v + w)) * e + s / (vn * least_root) + rounding()
+        }
+        LoadKind::Impedance => s / (vn * vn) * e + rounding(),
+    }
+}
+
+// How far the voltage across a load is off, from the bounds on the voltages of its node: for two phases the sum of both, with the last sweep's movement of each.
+fn bound_across(terminals: Terminals, bounds: Phasors, moved: f64) -> f64 {
+    let ea = bounds.a;
+    let eb = bounds.b;
+    let ec = bounds.c;
+    let a = ea.re + moved;
+    let b = eb.re + moved;
+    let c = ec.re + moved;
+    match terminals {
+        Terminals::OnA => a,
+        Terminals::OnB => b,
+        Terminals::OnC => c,
+        Terminals::AB => a + b,
+        Terminals::BC => b + c,
+        Terminals::CA => c + a,
+    }
+}
+
+// The bound on a load's current on each phase that it stands on, the second as the first.
+fn bound_on_phases(terminals: Terminals, bound: f64) -> Phasors {
+    let zero = Phasor { re: 0.0, im: 0.0 };
+    let e = Phasor { re: bound, im: 0.0 };
+    match terminals {
+        Terminals::OnA => Phasors {
+            a: e,
+            b: zero,
+            c: zero,
+        },
+        Terminals::OnB => Phasors {
+            a: zero,
+            b: e,
+            c: zero,
+        },
+        Terminals::OnC => Phasors {
+            a: zero,
+            b: zero,
+            c: e,
+        },
+        Terminals::AB => Phasors {
+            a: e,
+            b: e,
+            c: zero,
+        },
+        Terminals::BC => Phasors {
+            a: zero,
+            b: e,
+            c: e,
+        },
+        Terminals::CA => Phasors {
+            a: e,
+            b: zero,
+            c: e,
+        },
+    }
+}
+
+// How far a load's current is off on each phase, from the voltages of its node and the bounds on them.
+fn load_bounds(l: Load, solved: Phasors, reported: Three, bounds: Phasors, moved: f64) -> Phasors {
+    let terminals = l.phase;
+    let v = voltage_across(terminals, solved);
+    let w = voltage_across(terminals, phasors_of(reported));
+    let e = bound_across(terminals, bounds, moved);
+    bound_on_phases(terminals, load_bound(l, v, w, e))
+}
+
+// The sum over the loads at each node.
+fn drawn_bounds(
+    loads: [Load; 300],
+    rows: usize,
+    solved: &PhasorRows,
+    reported: &Threes,
+    bounds: &PhasorRows,
+    moved: f64,
+    own: &mut PhasorRows,
+) {
+    let count = load_count(rows);
+    let none = [[0.0f64; 6]; 201];
+    *own = none;
+    let mut row = 0;
+    while row < count {
+        let l = loads[row];
+        row += 1;
+        let node = place(l.node);
+        let v = phasors_at(solved, node);
+        let w = three_at(reported, node);
+        let e = phasors_at(bounds, node);
+        add_at(own, node, load_bounds(l, v, w, e, moved));
+    }
+}
+
+// The bounds on the voltages at each node in cV and on the currents of each branch in mA, from the voltages in floats and the reported ones, if 1,000 sweeps are
+// enough. They stand in re, and are 0 before the first sweep. The source is not off.
+pub fn bounds_on(
+    g: Network,
+    solved: &PhasorRows,
+    reported: &Threes,
+    voltages: &mut PhasorRows,
+    currents: &mut PhasorRows,
+) -> Bounds {
+    let branches = g.branches;
+    let rows = g.rows;
+    let order = g.order;
+    let loads = g.loads;
+    let count = g.count;
+    let none = no_phasors();
+    let moved = root(2.0) * std::num::nearest_u64_to_f64(g.tol);
+    let no_rows = [[0.0f64; 6]; 201];
+    *voltages = no_rows;
+    let mut sweeps: usize = 0;
+    while sweeps < 1000 {
+        drawn_bounds(loads, count, solved, reported, voltages, moved, currents);
+        if sweep(
+            branches,
+            rows,
+            &order,
+            Quantity::Bound,
+            none,
+            currents,
+            voltages,
+        ) {
+            return Bounds { found: true, moved };
+        }
+        sweeps += 1;
+    }
+    Bounds {
+        found: false,
+        moved,
+    }
+}
