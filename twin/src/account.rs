@@ -59,7 +59,7 @@ pub fn account(feeder: &Feeder, report: &Reported) -> Account {
     let mut allowance = 0;
 
     for load in &feeder.loads {
-        let v = report.voltages[load.node][load.phase];
+        let v = load.place.voltage(&report.voltages[load.node]);
         let i = load_current(load, v).unwrap_or_default();
         let square = i128::from(v.square());
         let vn = i128::from(load.vn);
@@ -69,7 +69,8 @@ pub fn account(feeder: &Feeder, report: &Reported) -> Account {
             Kind::Current => s.times(square).rnd(i128::from(v.square().isqrt()) * vn),
             Kind::Impedance => s.times(square).rnd(vn * vn),
         });
-        allowance += 2 * tol * size(i) + size(v) + 1;
+        // 4·tol between two phases, as each of them may be off by tol.
+        allowance += 2 * i128::from(load.place.count()) * tol * size(i) + size(v) + 1;
     }
 
     for (branch, i) in feeder.branches.iter().zip(&report.currents) {

@@ -90,7 +90,9 @@ pub fn root(n: i64) -> i64 {
     n.isqrt()
 }
 
-/// The load's current at voltage `v`; `None` for a P or I load at zero voltage.
+/// The load's current at voltage `v`; `None` for a P or I load at zero voltage. Between two phases `v` has parts up to
+/// 4·10^6 and vn goes that far, so re² + im² is at most 3.2·10^13, root·vn 2.3·10^13, and re and im of conj(S)·V are at
+/// most 2·3·10^11·4·10^6 = 2.4·10^18, which is within 64 bits (9.2·10^18).
 pub fn load_current(load: &Load, v: Pair) -> Option<Pair> {
     let w = match load.kind {
         Kind::Power => v.square(),
@@ -179,13 +181,14 @@ pub fn loss(device: &Device, i: &Phases) -> Pair {
 #[cfg(test)]
 mod tests {
     use super::*;
+    use crate::place::Place;
 
     fn pair(re: i64, im: i64) -> Pair {
         Pair { re, im }
     }
 
     fn load(kind: Kind, vn: i64, p: i64, q: i64) -> Load {
-        Load { name: 0, node: 0, phase: 0, kind, vn, p, q }
+        Load { name: 0, node: 0, place: Place::A, kind, vn, p, q }
     }
 
     fn regulator(tap: i64) -> Branch {

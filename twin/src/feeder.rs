@@ -1,6 +1,7 @@
 //! The feeder file: its three tables, its limits and its radial form (refusals 9 to 24).
 
 use crate::equations::{Pair, Phases, LIMIT};
+use crate::place::Place;
 use crate::text::Reader;
 use crate::{Refusal, MAX_FILE};
 
@@ -70,8 +71,7 @@ pub enum Connection {
 pub struct Load {
     pub name: u64,
     pub node: usize,
-    /// 0, 1 or 2
-    pub phase: usize,
+    pub place: Place,
     pub kind: Kind,
     pub vn: i64,
     pub p: i64,
@@ -218,12 +218,7 @@ fn read_branch(reader: &mut Reader) -> Option<(Branch, bool, bool)> {
 /// A load row, and whether its values are within their limits.
 fn read_load(reader: &mut Reader) -> Option<(Load, bool)> {
     let name = reader.name()?;
-    let phase = match reader.next_letter()? {
-        b'A' => 0,
-        b'B' => 1,
-        b'C' => 2,
-        _ => return None,
-    };
+    let place = Place::of_word(reader.next_word()?)?;
     let kind = match reader.next_letter()? {
         b'P' => Kind::Power,
         b'I' => Kind::Current,
@@ -232,8 +227,8 @@ fn read_load(reader: &mut Reader) -> Option<(Load, bool)> {
     };
     let [vn, p, q] = reader.next_numbers::<3>()?;
     reader.end_of_line()?;
-    let within = (1..=LIMIT).contains(&vn) && all_within(&[p, q], VA);
-    Some((Load { name, node: 0, phase, kind, vn, p, q }, within))
+    let within = (1..=place.most_vn()).contains(&vn) && all_within(&[p, q], VA);
+    Some((Load { name, node: 0, place, kind, vn, p, q }, within))
 }
 
 fn all_within(numbers: &[i64], bound: i64) -> bool {
@@ -281,7 +276,7 @@ fn connect(feeder: &mut Feeder) -> Result<(), Refusal> {
     for row in 0..feeder.loads.len() {
         let load = &feeder.loads[row];
         match names.find(load.name) {
-            Some(node) if feeder.phases(node) & 1 << load.phase != 0 => feeder.loads[row].node = node,
+            Some(node) if load.place.phases() & !feeder.phases(node) == 0 => feeder.loads[row].node = node,
             _ => return Err((23, line_of(rows) + 2 + row as u64)),
         }
     }
@@ -389,7 +384,48 @@ mod tests {
         assert_eq!(refusal(&["S,B,AB,D"], &[]), Some((23, 5)));
         assert_eq!(refusal(&["S,B,A,L"], &["S,C,P,1,0,0", "B,B,P,1,0,0"]), Some((23, 9)));
         assert_eq!(refusal(&[], &["B,B,P,1,0,0"]), Some((23, 7)));
-        assert_eq!(refusal(&["S,B,A,L"], &["S,AB,P,1,0,0"]), Some((10, 8)));
+        assert_eq!(refusal(&["S,B,A,L"], &["S,AC,P,1,0,0"]), Some((10, 8)));
+    }
+
+    #[test]
+    fn loads_between_two_phases() {
+        let refusal = |branches: &[&str], loads: &[&str]| read(branches, loads).err();
+        // Nodes of all phases words, and the loads that may stand there.
+        let nodes = [("A", ""), ("B", ""), ("C", ""), ("AB", "AB"), ("AC", "CA"), ("BC", "BC"), ("ABC", "AB BC CA")];
+        for (phases, good) in nodes {
+            for word in ["AB", "BC", "CA"] {
+                let due = if good.contains(word) { None } else { Some((23, 9)) };
+                let loads = ["S,A,P,1,0,0", &format!("N,{word},P,1,0,0")];
+                assert_eq!(refusal(&[&format!("S,N,{phases},L")], &loads), due, "{word} at {phases}");
+            }
+        }
+        assert_eq!(refusal(&[], &["N,AB,P,1,0,0"]), Some((23, 7)));
+        for bad in ["", "AC", "BA", "CB", "AA", "ABC", "BCA", "CAB", "D", "ab", "A B", "AB ", "-AB"] {
+            assert_eq!(refusal(&[], &["S,CA,P,1,0,0", &format!("S,{bad},P,1,0,0")]), Some((10, 8)), "{bad:?}");
+        }
+    }
+
+    #[test]
+    fn vn_between_two_phases() {
+        for word in ["A", "B", "C"] {
+            assert!(read(&[], &[&format!("S,{word},P,2000000,0,0")]).is_ok());
+            assert_eq!(read(&[], &[&format!("S,{word},P,2000001,0,0")]).err(), Some((11, 7)));
+        }
+        for word in ["AB", "BC", "CA"] {
+            for vn in [1, 2_000_000, 2_000_001, 4_000_000] {
+                assert!(read(&[], &[&format!("S,{word},P,{vn},0,0")]).is_ok());
+            }
+            for vn in [0, -1, 4_000_001, 999_999_999_999_999_999i64] {
+                assert_eq!(read(&[], &[&format!("S,{word},P,{vn},0,0")]).err(), Some((11, 7)));
+            }
+            // p and q keep their limits, and 10 behind it comes before 11.
+            assert_eq!(read(&[], &[&format!("S,{word},P,1,3000001,0")]).err(), Some((11, 7)));
+            assert_eq!(read(&[], &[&format!("S,{word},P,1,0,-3000001")]).err(), Some((11, 7)));
+            assert_eq!(read(&[], &[&format!("S,{word},P,4000001,0,0"), "S,BA,P,1,0,0"]).err(), Some((10, 8)));
+        }
+        // 11 comes before 23.
+        assert_eq!(read(&["S,N,A,L"], &["N,AB,P,4000001,0,0"]).err(), Some((11, 8)));
+        assert_eq!(read(&["S,N,A,L"], &["N,AB,P,4000000,0,0"]).err(), Some((23, 8)));
     }
 
     #[test]

@@ -1,7 +1,7 @@
 //! A seeded generator of feeders and reports: sound, mangled, at the limits, and edited.
 
 use crate::equations::{Pair, Phases, LIMIT, NONE};
-use crate::feeder::{read_feeder, Feeder, BRANCH_HEADER, LOAD_HEADER, MAX_BRANCHES, MAX_LOADS, SOURCE_HEADER};
+use crate::feeder::{read_feeder, Feeder, Load, BRANCH_HEADER, LOAD_HEADER, MAX_BRANCHES, MAX_LOADS, SOURCE_HEADER};
 use crate::ladder::{settle, Currents, Powers};
 use crate::report::write_rows;
 use crate::MAX_FILE;
@@ -251,21 +251,48 @@ pub fn sound(random: &mut Random, branches: usize, loads: usize, mix: Mix) -> Dr
     draft
 }
 
-/// Sizes as a fuzzer wants them: mostly small, now and then full.
+/// The words of the loads between two phases.
+const DELTA_WORDS: [&str; 3] = ["AB", "BC", "CA"];
+
+/// Those of them that may stand at a node with these phases.
+fn delta_words(phases: &str) -> Vec<&'static str> {
+    DELTA_WORDS.into_iter().filter(|word| word.chars().all(|letter| phases.contains(letter))).collect()
+}
+
+/// Puts load rows between two phases of their nodes, one in n, where the node has two. vn grows with the voltage there, by
+/// the root of 3 where the phases stand 120° apart.
+pub fn between_phases(random: &mut Random, draft: &mut Draft, n: usize) {
+    for row in &mut draft.loads {
+        let phases = draft.branches.iter().find(|branch| branch[1] == row[0]).map_or("ABC", |branch| &branch[2]);
+        let words = delta_words(phases);
+        if !words.is_empty() && random.once_in(n) {
+            let vn = row[3].parse().unwrap_or(1.0) * 3f64.sqrt();
+            row[1] = random.pick(&words).to_string();
+            row[3] = (vn as i64).clamp(1, 2 * LIMIT).to_string();
+        }
+    }
+}
+
+/// Sizes as a fuzzer wants them: mostly small, now and then full. Half of them have loads between two phases.
 pub fn some_sound(random: &mut Random) -> Draft {
     let most = *random.pick(&[1, 3, 3, 6, 6, 12, 30, MAX_BRANCHES]);
     let least = if random.once_in(20) { 0 } else { 1 };
     let branches = random.between(least, most as i64) as usize;
     let loads = random.below((branches * 3 / 2 + 3).min(MAX_LOADS + 1));
     let mix = *random.pick(&[Mix::Power, Mix::Current, Mix::Mixed, Mix::Mixed]);
-    sound(random, branches, loads, mix)
+    let mut draft = sound(random, branches, loads, mix);
+    if random.once_in(2) {
+        let n = *random.pick(&[1, 2, 4]);
+        between_phases(random, &mut draft, n);
+    }
+    draft
 }
 
 /// A sound feeder pushed until it may not settle: heavy loads, large impedances, little voltage, few sweeps.
 pub fn hard(random: &mut Random) -> Draft {
     let mut draft = some_sound(random);
     for _ in 0..random.between(1, 3) {
-        match random.below(9) {
+        match random.below(10) {
             0 => draft.source[8] = random.between(1, 4).to_string(),
             1 => draft.source[7] = "0".into(),
             2 => {
@@ -293,6 +320,12 @@ pub fn hard(random: &mut Random) -> Draft {
                     let row = random.below(draft.loads.len());
                     draft.loads[row][3] = random.between(1, 100).to_string();
                 }
+            }
+            8 => {
+                // Two phases of the source alike: no voltage between them, until a line or a regulator makes one.
+                let (a, b) = (1 + 2 * random.below(3), 1 + 2 * random.below(3));
+                draft.source[b] = draft.source[a].clone();
+                draft.source[b + 1] = draft.source[a + 1].clone();
             }
             _ => {
                 for row in &mut draft.branches {
@@ -341,6 +374,9 @@ const ODD_FIELDS: [&str; 19] = [
     "0x1",
 ];
 
+/// Words that are no load's phase, AC, BA and CB above all.
+const NO_PLACES: [&str; 12] = ["AC", "BA", "CB", "AC", "BA", "CB", "ABC", "AA", "ABB", "", "D", "ab"];
+
 /// A draft with faults in its values, names and phases: layout mostly right, 11 to 24 mostly met.
 pub fn wrong(random: &mut Random) -> Draft {
     let mut draft = some_sound(random);
@@ -378,8 +414,19 @@ pub fn wrong(random: &mut Random) -> Draft {
             4 if !draft.loads.is_empty() => {
                 let row = random.below(draft.loads.len());
                 let k = random.between(3, 5) as usize;
-                let value =
-                    *random.pick(&[-3_000_001i64, -3_000_000, -1, 0, 1, 2_000_000, 2_000_001, 3_000_000, 3_000_001]);
+                let value = *random.pick(&[
+                    -3_000_001i64,
+                    -3_000_000,
+                    -1,
+                    0,
+                    1,
+                    2_000_000,
+                    2_000_001,
+                    3_000_000,
+                    3_000_001,
+                    4_000_000,
+                    4_000_001,
+                ]);
                 draft.loads[row][k] = value.to_string();
             }
             5 if rows > 0 => draft.branches[branch][0] = random.pick(&["NOBODY", "0", "Q", "ABC"]).to_string(),
@@ -392,9 +439,11 @@ pub fn wrong(random: &mut Random) -> Draft {
             11 if rows > 0 => draft.branches[branch][3] = random.pick(&["L", "R", "Y", "D"]).to_string(),
             12 | 13 if !draft.loads.is_empty() => {
                 let row = random.below(draft.loads.len());
-                match random.below(3) {
+                match random.below(5) {
                     0 => draft.loads[row][0] = "NOBODY".into(),
                     1 => draft.loads[row][1] = random.pick(&["A", "B", "C"]).to_string(),
+                    2 => draft.loads[row][1] = random.pick(&DELTA_WORDS).to_string(),
+                    3 => draft.loads[row][1] = random.pick(&NO_PLACES).to_string(),
                     _ => draft.loads[row][2] = random.pick(&["P", "I", "Z"]).to_string(),
                 }
             }
@@ -520,7 +569,11 @@ pub fn boundary(random: &mut Random) -> Vec<u8> {
             // 199 to 201 branches, 299 to 301 loads.
             let branches = random.between(199, 201) as usize;
             let loads = random.between(299, 301) as usize;
-            sound(random, branches, loads, Mix::Mixed).text()
+            let mut draft = sound(random, branches, loads, Mix::Mixed);
+            if random.once_in(2) {
+                between_phases(random, &mut draft, 1);
+            }
+            draft.text()
         }
         1 => sized(random),
         2 | 3 => transformers(random).text(),
@@ -534,10 +587,14 @@ pub fn boundary(random: &mut Random) -> Vec<u8> {
             let mut row = row!["S", "N", "ABC", "L"];
             row.extend((0..12).map(|_| ohms()));
             draft.branches.push(row);
-            for phase in ["A", "B", "C"] {
+            for _ in 0..3 {
+                let phase = *random.pick(&["A", "B", "C", "AB", "BC", "CA"]);
                 let mut va = || random.pick(&["3000000", "-3000000", "0", "1", "-1", "72000"]).to_string();
                 let (p, q) = (va(), va());
-                let vn = random.pick(&["1", "2", "720000", "2000000"]).to_string();
+                let vn = match phase.len() {
+                    1 => random.pick(&["1", "2", "720000", "2000000"]).to_string(),
+                    _ => random.pick(&["1", "2", "1247076", "4000000"]).to_string(),
+                };
                 draft.loads.push(row![random.pick(&["S", "N", "N"]), phase, random.pick(&["P", "I", "Z"]), vn, p, q]);
             }
             draft.text()
@@ -629,7 +686,7 @@ pub fn transformers(random: &mut Random) -> Draft {
         let vn = random.pick(&[1, 1_000_000, 2_000_000]);
         draft.loads.push(row![
             from,
-            random.pick(&["A", "B", "C"]),
+            random.pick(&["A", "B", "C", "AB", "BC", "CA"]),
             kind,
             vn,
             random.between(-20, 20),
@@ -639,9 +696,127 @@ pub fn transformers(random: &mut Random) -> Draft {
     draft
 }
 
+/// Feeders for loads between two phases: nodes of all phases words, the source's phases balanced, alike, opposite, at 0 or
+/// at the limits, rows where a phase is absent, vn at its limit and past it, and currents near theirs.
+pub fn deltas(random: &mut Random) -> Draft {
+    let tol = *random.pick(&[0, 0, 1, 2, 1000]);
+    let mut draft = Draft { source: source_row("S", 720_000, tol, random.between(1, 30)), ..Draft::default() };
+    match random.below(6) {
+        0 | 1 => {}
+        2 => {
+            // Two phases alike.
+            let (a, b) = (1 + 2 * random.below(3), 1 + 2 * random.below(3));
+            draft.source[b] = draft.source[a].clone();
+            draft.source[b + 1] = draft.source[a + 1].clone();
+        }
+        3 => {
+            // At the ends, so that a difference has 4,000,000.
+            for field in &mut draft.source[1..7] {
+                *field = random.pick(&["2000000", "-2000000", "2000000", "-2000000", "1999999", "0"]).to_string();
+            }
+        }
+        _ => {
+            for field in &mut draft.source[1..7] {
+                *field = random.pick(&["300000", "-300000", "0", "0", "1", "-1"]).to_string();
+            }
+        }
+    }
+
+    const WORDS: [&str; 10] = ["A", "B", "C", "AB", "AC", "BC", "AB", "AC", "BC", "ABC"];
+    let mut nodes = vec![("S".to_string(), "ABC")];
+    let with_ohms = random.once_in(2);
+    for k in 0..random.between(1, 5) {
+        let (from, above) = random.pick(&nodes).clone();
+        let phases = *random.pick(&WORDS);
+        // Mostly what the node above can feed.
+        let phases =
+            if phases.chars().all(|letter| above.contains(letter)) || random.once_in(60) { phases } else { above };
+        let kind = *random.pick(if phases == "ABC" { &["L", "L", "R", "Y", "D"] } else { &["L", "L", "L", "R", "R"] });
+        let mut row = row![from, format!("N{k}"), phases, kind];
+        let mut p = [0i64; 12];
+        match kind {
+            "L" if with_ohms => {
+                for (k, owners) in ["A", "AB", "AC", "B", "BC", "C"].into_iter().enumerate() {
+                    if owners.chars().all(|letter| phases.contains(letter)) {
+                        let most = *random.pick(&[1_000, 1_000_000, 1_000_000, 100_000_000]);
+                        p[2 * k] = random.between(0, most);
+                        p[2 * k + 1] = random.between(-most, most);
+                    }
+                }
+            }
+            "L" => {}
+            "R" => {
+                for (tap, letter) in p.iter_mut().zip(['A', 'B', 'C']) {
+                    if phases.contains(letter) {
+                        *tap = random.between(-16, 16);
+                    }
+                }
+            }
+            _ => {
+                let n = random.between(50, 200);
+                (p[0], p[1]) = (n, (n as f64 * *random.pick(&[0.25, 0.577, 1.0])) as i64);
+                if with_ohms {
+                    p[2..8].iter_mut().for_each(|p| *p = random.between(0, 100_000));
+                }
+            }
+        }
+        row.extend(p.iter().map(|p| p.to_string()));
+        draft.branches.push(row);
+        nodes.push((format!("N{k}"), phases));
+    }
+
+    // One kind of fault at a time, so that what comes behind it is met too.
+    let fault = random.below(12);
+    for _ in 0..random.between(1, 6) {
+        let (name, phases) = random.pick(&nodes).clone();
+        let words = delta_words(phases);
+        let place = if words.is_empty() || random.once_in(6) {
+            let letters: Vec<char> = phases.chars().collect();
+            random.pick(&letters).to_string()
+        } else {
+            random.pick(&words).to_string()
+        };
+        let kind = *random.pick(&["P", "I", "Z", "Z"]);
+        let most = if place.len() == 2 { 2 * LIMIT } else { LIMIT };
+        let vn = match random.below(8) {
+            0 => most,
+            1 => random.between(1, most),
+            2 => random.between(1, 100),
+            _ => random.between(400_000, 1_300_000),
+        };
+        let most_va = *random.pick(&[100, 10_000, 10_000, 100_000, 3_000_000]);
+        let mut row = row![name, place, kind, vn, random.between(-most_va, most_va), random.between(-most_va, most_va)];
+        match fault {
+            0 if random.once_in(3) => row[1] = random.pick(&NO_PLACES).to_string(),
+            1 if random.once_in(3) => row[3] = (most + random.between(0, 1)).to_string(),
+            2 if random.once_in(3) => row[1] = random.pick(&DELTA_WORDS).to_string(),
+            3 if random.once_in(6) => row[0] = "NOBODY".into(),
+            4 | 5 => {
+                // A Z row whose current is near its limit, or half of it, at a difference of 600000 or that of balanced
+                // phases: alone it meets 31, two of them 32, and two of opposite signs cancel.
+                let volts = *random.pick(&[600_000.0, 300_000.0, 1_247_076.6]);
+                let vn = random.between(1_000, 300_000);
+                let part = *random.pick(&[1.0, 1.0, 0.5, -1.0, -0.5]);
+                let p = part * 2_000_000.0 * vn as f64 * vn as f64 / volts / 100_000.0;
+                let p = (p as i64 + random.between(-1, 1)).clamp(-3_000_000, 3_000_000);
+                (row[2], row[3], row[4], row[5]) = ("Z".into(), vn.to_string(), p.to_string(), "0".into());
+            }
+            6 => {
+                // The largest numbers.
+                row[3] = random.pick(&[1, most]).to_string();
+                row[4] = random.pick(&[3_000_000, -3_000_000]).to_string();
+                row[5] = random.pick(&[3_000_000, -3_000_000]).to_string();
+            }
+            _ => {}
+        }
+        draft.loads.push(row);
+    }
+    draft
+}
+
 /// Any feeder file.
 pub fn any_feeder(random: &mut Random) -> Vec<u8> {
-    match random.below(10) {
+    match random.below(12) {
         0..=2 => some_sound(random).text(),
         3 | 4 => hard(random).text(),
         5 | 6 => wrong(random).text(),
@@ -649,6 +824,15 @@ pub fn any_feeder(random: &mut Random) -> Vec<u8> {
         8 => {
             let text = some_sound(random).text();
             mangle(random, &text)
+        }
+        9 => deltas(random).text(),
+        10 => {
+            let text = deltas(random).text();
+            if random.once_in(4) {
+                mangle(random, &text)
+            } else {
+                text
+            }
         }
         _ => {
             let text = boundary(random);
@@ -700,7 +884,13 @@ pub fn forge(random: &mut Random, feeder: &Feeder, moves: usize) -> Vec<u8> {
         Ok(settled) => (settled.voltages, i64::from(settled.sweeps)),
         Err(_) => (downward_clamped(feeder), 1),
     };
+    let between: Vec<&Load> = feeder.loads.iter().filter(|load| load.place.is_delta()).collect();
     for _ in 0..moves {
+        if !between.is_empty() && random.once_in(3) {
+            let load = *random.pick(&between);
+            move_both(random, feeder, load, &mut voltages[load.node]);
+            continue;
+        }
         let node = random.below(nodes);
         if node == 0 && !random.once_in(10) {
             continue;
@@ -738,6 +928,27 @@ pub fn forge(random: &mut Random, feeder: &Feeder, moves: usize) -> Vec<u8> {
     }
     let sweeps = if moves > 0 { random.between(1, feeder.limit) } else { sweeps };
     write_rows(feeder, &voltages, &currents.nodes[1..], &powers, sweeps)
+}
+
+/// Moves both phases that the load stands between: apart, together, or to no difference.
+fn move_both(random: &mut Random, feeder: &Feeder, load: &Load, v: &mut Phases) {
+    let tol = feeder.tol;
+    let by = *random.pick(&[tol, tol, -tol, tol + 1, 1, -1, 5, 4_000_000]);
+    let by = match random.below(3) {
+        0 => Pair { re: by, im: 0 },
+        1 => Pair { re: 0, im: by },
+        _ => Pair { re: by, im: -by },
+    };
+    let held = |v: Pair| Pair { re: v.re.clamp(-LIMIT, LIMIT), im: v.im.clamp(-LIMIT, LIMIT) };
+    let together = random.once_in(3);
+    let alike = random.once_in(8);
+    let mut first = None;
+    for (v, sign) in v.iter_mut().zip(load.place.signs()).filter(|(_, sign)| *sign != 0) {
+        *v = held(*v + by.times(if together { 1 } else { sign }));
+        if alike {
+            *v = *first.get_or_insert(*v);
+        }
+    }
 }
 
 /// V0, each voltage held within the limit.
@@ -787,6 +998,8 @@ fn edit_sweeps(random: &mut Random, text: &[u8]) -> Vec<u8> {
 #[cfg(test)]
 mod tests {
     use super::*;
+    use crate::feeder::Kind;
+    use crate::place::Place;
     use crate::{check, parts, study, Answer};
 
     #[test]
@@ -823,6 +1036,71 @@ mod tests {
         let in_check: Vec<u64> = [&[0], &layout[..], &[30, 31, 32, 50, 51, 52, 53, 54, 55]].concat();
         assert_eq!(studied.into_iter().collect::<Vec<_>>(), in_study);
         assert_eq!(checked.into_iter().collect::<Vec<_>>(), in_check);
+    }
+
+    #[test]
+    fn every_number_is_met_with_delta_loads() {
+        let mut studied = std::collections::BTreeSet::new();
+        let mut checked = std::collections::BTreeSet::new();
+        let mut out = vec![0; MAX_FILE];
+        for seed in 0..3000 {
+            let mut random = Random::new(seed);
+            let feeder = deltas(&mut random).text();
+            let report = any_report(&mut random, &feeder);
+            studied.insert(parts(study(&feeder, &mut out).word()).number);
+            checked.insert(parts(check(&feeder, &report).word()).number);
+        }
+        // 20 to 22 and 24 are faults of branch rows; 9 comes of a report that is too long.
+        let in_reading = [10, 11, 23];
+        let in_study: Vec<u64> = [&[0], &in_reading[..], &[30, 31, 32, 33, 34]].concat();
+        let in_check: Vec<u64> = [&[0, 9], &in_reading[..], &[30, 31, 32, 50, 51, 52, 53, 54, 55]].concat();
+        assert_eq!(studied.into_iter().collect::<Vec<_>>(), in_study);
+        assert_eq!(checked.into_iter().collect::<Vec<_>>(), in_check);
+    }
+
+    #[test]
+    fn delta_loads_are_drawn_at_their_ends() {
+        // Each of these must be met among the generated feeders: what a load row of a good feeder has.
+        let mut met = std::collections::BTreeSet::new();
+        let mut out = vec![0; MAX_FILE];
+        for seed in 0..3000 {
+            let mut random = Random::new(seed);
+            let text = any_feeder(&mut random);
+            let Ok(feeder) = read_feeder(&text) else { continue };
+            let passes = matches!(study(&text, &mut out), Answer::Report { .. });
+            met.insert(if feeder.loads.iter().any(|load| load.place.is_delta()) { "delta" } else { "no delta" });
+            for load in feeder.loads.iter().filter(|load| load.place.is_delta()) {
+                met.insert(match (load.place, load.kind) {
+                    (Place::AB, Kind::Power) => "AB P",
+                    (Place::BC, Kind::Power) => "BC P",
+                    (Place::CA, Kind::Power) => "CA P",
+                    (Place::AB, Kind::Current) => "AB I",
+                    (Place::BC, Kind::Current) => "BC I",
+                    (Place::CA, Kind::Current) => "CA I",
+                    (Place::AB, _) => "AB Z",
+                    (Place::BC, _) => "BC Z",
+                    _ => "CA Z",
+                });
+                if load.vn == 4_000_000 {
+                    met.insert(if passes { "vn 4,000,000, settled" } else { "vn 4,000,000" });
+                }
+                if load.node == 0 {
+                    met.insert("on the source");
+                } else if feeder.phases(load.node) != 7 {
+                    met.insert("on two phases");
+                }
+                if load.node == 0 && load.place.voltage(&feeder.source_v) == Pair::default() {
+                    met.insert("no voltage");
+                }
+                if load.node == 0 && load.place.voltage(&feeder.source_v).re.abs() == 4_000_000 {
+                    met.insert("largest voltage");
+                }
+                if feeder.tol == 0 && passes {
+                    met.insert("tol 0, settled");
+                }
+            }
+        }
+        assert_eq!(met.len(), 18, "{met:?}");
     }
 
     #[test]

@@ -38,13 +38,13 @@ impl Currents {
         self.nodes.fill(NONE);
         let mut beyond = false;
         for (load, current) in feeder.loads.iter().zip(&mut self.loads) {
-            *current = load_current(load, v[load.node][load.phase]).ok_or(30u32)?;
+            *current = load_current(load, load.place.voltage(&v[load.node])).ok_or(30u32)?;
             // A current beyond the limit is not summed: a few of them would leave 64 bits.
             if current.beyond(LIMIT) {
                 beyond = true;
                 continue;
             }
-            self.nodes[load.node][load.phase] += *current;
+            load.place.count_in(*current, &mut self.nodes[load.node]);
         }
         if beyond {
             return Err(31);
@@ -77,7 +77,7 @@ impl Currents {
         let losses = losses.collect();
         let mut drawn = ZERO;
         for (load, current) in feeder.loads.iter().zip(&self.loads) {
-            drawn += v[load.node][load.phase] * current.conj();
+            drawn += load.place.voltage(&v[load.node]) * current.conj();
         }
         Powers { losses, source: power(&v[0], &self.nodes[0]), drawn, lost }
     }

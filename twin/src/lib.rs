@@ -1,4 +1,5 @@
-//! A second study and check for radial feeders, written from document 01 and docs/DECISIONS.md. Nothing here is proved.
+//! A second study and check for radial feeders, written from documents 01 and 02 (S-1) and docs/DECISIONS.md. Nothing
+//! here is proved.
 //!
 //! It is there to be compared with the proved programs (`bin/fuzz`) and to measure them against (`bin/bench`).
 
@@ -9,6 +10,7 @@ pub mod feeder;
 pub mod generate;
 pub mod ladder;
 pub mod outside;
+pub mod place;
 pub mod report;
 pub mod text;
 

@@ -117,6 +117,15 @@ impl<'a> Reader<'a> {
         (phases != 0).then_some(phases)
     }
 
+    /// A comma and a word of capital letters, which may be empty.
+    pub fn next_word(&mut self) -> Option<&'a [u8]> {
+        self.comma()?;
+        let rest = &self.bytes[self.at..];
+        let length = rest.iter().take_while(|byte| byte.is_ascii_uppercase()).count();
+        self.at += length;
+        Some(&rest[..length])
+    }
+
     /// A comma and one letter.
     pub fn next_letter(&mut self) -> Option<u8> {
         self.comma()?;

@@ -1,4 +1,6 @@
-//! bench [ROUNDS]: medians of study, check and reading alone, for generated feeders of three sizes and three mixes of load.
+//! bench [ROUNDS]: medians of study, check and reading alone, for generated feeders of three sizes and four mixes of load.
+//! The first three mixes have no loads between two phases and are the same feeders as before there were any; the fourth,
+//! `delta`, has loads drawn as in `mixed`, half of them put between two phases where their nodes have two.
 //!
 //! All in one process, the sides taking turns within each round. The output buffer has 65,536 bytes, is cleared once
 //! before the first run and never again. With the feature `proved` the proved code and its ratio to the twin stand beside.
@@ -7,7 +9,7 @@
 
 use std::hint::black_box;
 use std::time::Instant;
-use twin::generate::{sound, Mix, Random};
+use twin::generate::{between_phases, sound, Mix, Random};
 use twin::outside::{Calls, PROVED, TWIN};
 use twin::{read_feeder, Answer, MAX_FILE};
 
@@ -26,10 +28,13 @@ fn median(times: &mut [f64]) -> f64 {
 }
 
 /// The first generated feeder of that size that settles, with tol 1 and at most 100 sweeps; with its report and sweeps.
-fn settling(branches: usize, loads: usize, mix: Mix) -> (Vec<u8>, Vec<u8>, u32) {
+fn settling(branches: usize, loads: usize, mix: Mix, delta: bool) -> (Vec<u8>, Vec<u8>, u32) {
     let mut random = Random::new(2024 + branches as u64);
     loop {
         let mut draft = sound(&mut random, branches, loads, mix);
+        if delta {
+            between_phases(&mut random, &mut draft, 2);
+        }
         draft.source[7] = "1".to_string();
         draft.source[8] = "100".to_string();
         let feeder = draft.text();
@@ -53,9 +58,10 @@ fn main() {
     println!("{:<10}{:>9}{:>7}{:>8}  {:<28}{:>10}{more}", "loads are", "branches", "loads", "sweeps", "call", "twin");
 
     let mut out = vec![0; MAX_FILE];
-    for (mix, name) in [(Mix::Power, "power"), (Mix::Current, "current"), (Mix::Mixed, "mixed")] {
+    let mixes = [(Mix::Power, "power"), (Mix::Current, "current"), (Mix::Mixed, "mixed"), (Mix::Mixed, "delta")];
+    for (mix, name) in mixes {
         for (branches, loads) in [(10, 15), (50, 75), (200, 300)] {
-            let (feeder, report, sweeps) = settling(branches, loads, mix);
+            let (feeder, report, sweeps) = settling(branches, loads, mix, name == "delta");
             let mut wrong = false;
             let batch = (400 / branches) as u32;
             let mut times = vec![Vec::with_capacity(rounds); 3 * sides.len() + 1];

@@ -2,7 +2,8 @@
 //!
 //! Every case is a feeder and a report. The study is run with buffers of many lengths, filled beforehand and with guard
 //! bytes around them, and the answer with its sweeps and every byte are compared; then the check. The first difference
-//! ends the run, and its files are written to the folder named by FUZZ_OUT (or here).
+//! ends the run, and its files are written to the folder named by FUZZ_OUT (or here). How often each answer was met is
+//! printed at the end, for all feeders and for those with a load row between two phases.
 //!
 //! `--self` compares the twin with itself by the same calls. There TWIN_WRONG=KIND:N spoils the N-th call on the other
 //! side, to show that the fuzzer notices: KIND is `answer`, `sweeps`, `byte` (in the report), `behind` (a byte behind
@@ -90,18 +91,56 @@ fn label(answer: Answer) -> String {
     }
 }
 
+/// How often each answer was met.
 #[derive(Default)]
-struct Counts {
+struct Met {
     studies: BTreeMap<String, u64>,
     checks: BTreeMap<String, u64>,
+}
+
+#[derive(Default)]
+struct Counts {
+    all: Met,
+    /// Those of feeders with a load row between two phases.
+    delta: Met,
+    /// Whether the feeder in hand is one.
+    has_delta: bool,
     calls: u64,
+}
+
+impl Counts {
+    fn study(&mut self, answer: Answer) {
+        for met in self.now() {
+            *met.studies.entry(label(answer)).or_default() += 1;
+        }
+    }
+
+    fn check(&mut self, answer: Answer) {
+        for met in self.now() {
+            *met.checks.entry(label(answer)).or_default() += 1;
+        }
+    }
+
+    /// Where the feeder in hand is counted.
+    fn now(&mut self) -> impl Iterator<Item = &mut Met> {
+        std::iter::once(&mut self.all).chain(self.has_delta.then_some(&mut self.delta))
+    }
+}
+
+/// Whether the file has a line like a load row between two phases. It need not be a good feeder.
+fn has_delta(feeder: &[u8]) -> bool {
+    feeder.split(|b| *b == b'\n').any(|line| {
+        let fields: Vec<&[u8]> = line.split(|b| *b == b',').collect();
+        fields.len() == 6 && [&b"AB"[..], b"BC", b"CA"].contains(&fields[1])
+    })
 }
 
 /// Runs both sides on one case, in all buffers and with the report; the error says what differs.
 fn compare(far: &Calls, feeder: &[u8], report: &[u8], salt: u8, counts: &mut Counts) -> Result<(), String> {
     let mut large = Guarded::new(MAX_FILE, salt);
     let first = twin::study(feeder, large.middle());
-    *counts.studies.entry(label(first)).or_default() += 1;
+    counts.has_delta = has_delta(feeder);
+    counts.study(first);
 
     let mut lengths = vec![MAX_FILE, 0, 1];
     if let Answer::Report { length: needed, .. } = first {
@@ -127,7 +166,7 @@ fn compare(far: &Calls, feeder: &[u8], report: &[u8], salt: u8, counts: &mut Cou
                 return Err(format!("study, buffer of {length}: {answer:?}, and the twin's buffer is changed"));
             }
             if let Answer::Refused { number: 40, .. } = answer {
-                *counts.studies.entry("40".to_string()).or_default() += 1;
+                counts.study(answer);
             }
         }
         if let Some(at) = near.bytes.iter().zip(&away.bytes).position(|(a, b)| a != b) {
@@ -161,7 +200,7 @@ fn compare_check(
     due: Option<Answer>,
 ) -> Result<(), String> {
     let answer = twin::check(feeder, report);
-    *counts.checks.entry(label(answer)).or_default() += 1;
+    counts.check(answer);
     counts.calls += 1;
     if due.is_some_and(|due| due != answer) {
         return Err(format!("check: the twin refuses its own report, {answer:?}"));
@@ -233,7 +272,9 @@ fn main() {
             std::process::exit(1);
         }
     }
-    line("study", &counts.studies);
-    line("check", &counts.checks);
+    line("study", &counts.all.studies);
+    line("check", &counts.all.checks);
+    line("study, with delta loads", &counts.delta.studies);
+    line("check, with delta loads", &counts.delta.checks);
     println!("{count} cases of seed {seed}, {} calls on each side, 0 differences", counts.calls);
 }

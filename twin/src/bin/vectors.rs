@@ -1,9 +1,14 @@
-//! vectors FOLDER: runs all cases of the folder's index.jsonl and prints the differences.
+//! vectors FOLDER: runs all cases of the folder's index.jsonl, and of its base.jsonl if it has one, and prints the
+//! differences. Files are looked for in the folder and, where the requests of document 02 share them, in the one above.
+//!
+//! The calls are study, check, and account: there the report must pass, and the differences and the allowance of the power
+//! account be those expected.
 //!
 //! Where several values are allowed, the answer must be the first of them; for 54, where the first by the file need not
 //! be the first that is fed through none that is off, it must be among them (and a note is printed where it is not first).
 
-use std::path::Path;
+use std::path::{Path, PathBuf};
+use twin::account::account_of;
 use twin::Answer;
 
 /// The text behind `"key": ` in a line of JSON as the index has it: no nested keys of the same name, no escaped quotes
@@ -36,10 +41,13 @@ fn before(at: usize) -> u8 {
 /// What is wrong with the answer to the case, if anything; `first` counts cases where a value is free and ours is the
 /// first allowed, `other` where it is not.
 fn run(folder: &Path, line: &str, first: &mut usize, other: &mut usize) -> Result<(), String> {
-    let read = |name: &str| std::fs::read(folder.join(name)).map_err(|e| format!("{name}: {e}"));
+    let read = |name: &str| std::fs::read(path(folder, name)).map_err(|e| format!("{name}: {e}"));
     let call = word(line, "call").ok_or("no call")?;
     let feeder = read(word(line, "feeder").ok_or("no feeder")?)?;
     let expected = behind(line, "expected").ok_or("nothing expected")?;
+    if call == "account" {
+        return run_account(&feeder, &read(word(line, "report").ok_or("no report")?)?, expected);
+    }
 
     let length = number(line, "buffer").unwrap_or(100_000);
     let mut buffer: Vec<u8> = (0..length).map(before).collect();
@@ -89,21 +97,68 @@ fn run(folder: &Path, line: &str, first: &mut usize, other: &mut usize) -> Resul
     }
 }
 
+/// What is wrong with the power account of a report that must pass.
+fn run_account(feeder: &[u8], report: &[u8], expected: &str) -> Result<(), String> {
+    let answer = twin::check(feeder, report);
+    if answer != Answer::Pass {
+        return Err(format!("{answer:?}, and an account is due"));
+    }
+    let due = |key: &str| number(expected, key).map(|due| due as i128).ok_or(format!("no {key}"));
+    let (p, q, allowance) = (due("p")?, due("q")?, due("allowance")?);
+    let account = account_of(feeder, report).ok_or("no account")?;
+    if (account.twice_p, account.twice_q, account.allowance) != (2 * p, 2 * q, allowance) {
+        return Err(format!("{account:?}, due {expected}"));
+    }
+    if !account.holds() {
+        return Err(format!("{account:?} does not hold"));
+    }
+    Ok(())
+}
+
+/// Where a file of the folder's cases is.
+fn path(folder: &Path, name: &str) -> PathBuf {
+    let here = folder.join(name);
+    if here.exists() {
+        here
+    } else {
+        folder.join("..").join(name)
+    }
+}
+
+/// How many cases were run, and with what outcome.
+#[derive(Default)]
+struct Tally {
+    cases: usize,
+    differences: usize,
+    first: usize,
+    other: usize,
+}
+
 fn main() {
     let Some(folder) = std::env::args().nth(1) else {
         eprintln!("usage: vectors FOLDER");
         std::process::exit(2);
     };
     let folder = Path::new(&folder);
-    let index = std::fs::read_to_string(folder.join("index.jsonl")).expect("index.jsonl");
-    let (mut cases, mut differences, mut first, mut other) = (0, 0, 0, 0);
-    for line in index.lines() {
-        cases += 1;
-        if let Err(reason) = run(folder, line, &mut first, &mut other) {
-            differences += 1;
-            println!("{}: {reason}", word(line, "name").unwrap_or("?"));
+    let mut lists = vec!["index.jsonl"];
+    if folder.join("base.jsonl").exists() {
+        lists.push("base.jsonl");
+    }
+    let mut all = Tally::default();
+    for list in &lists {
+        let (cases, differences) = (all.cases, all.differences);
+        for line in std::fs::read_to_string(folder.join(list)).expect(list).lines() {
+            all.cases += 1;
+            if let Err(reason) = run(folder, line, &mut all.first, &mut all.other) {
+                all.differences += 1;
+                println!("{list}, {}: {reason}", word(line, "name").unwrap_or("?"));
+            }
+        }
+        if lists.len() > 1 {
+            println!("{list}: {} cases, {} differences", all.cases - cases, all.differences - differences);
         }
     }
+    let Tally { cases, differences, first, other } = all;
     println!("value free in {} cases: the first allowed in {first}, another (54 only) in {other}", first + other);
     println!("{cases} cases, {differences} differences");
     if differences > 0 || cases == 0 {
