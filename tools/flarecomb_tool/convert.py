@@ -20,9 +20,9 @@ branch table (known by the column from):
   turns_n, turns_m                   Y, D: the turns ratio N/M, 1 to 1000000 each
   r_a_ohm, x_a_ohm, .. x_c_ohm       Y, D: impedances in ohm on the to-node's side
 load table (known by the column node):
-  node, phase                        where the load stands; phase A, B or C
+  node, phase                        where the load stands; phase A, B or C to ground, or AB, BC or CA between two phases
   kind                               P constant power, I constant current, Z constant impedance
-  vn_v                               rated voltage to ground in V: whole 0.01 V
+  vn_v                               rated voltage in V, to ground or between the two phases: whole 0.01 V
   p_kw, q_kvar                       rated power in kW and kvar: whole W and var; a capacitor is a Z row with p 0 and q negative
 
 The branch and the load table may be left out where the feeder has none. An impedance between two phases that has no value is taken as 0.
@@ -325,9 +325,9 @@ class Conversion:
         return values
 
     def load_row(self, row):
-        described = format.LOADS.columns
-        return [self.name(row, "node"), self.word(row, "phase", format.PHASES), self.word(row, "kind", tuple(format.LOAD_KINDS)),
-                self.whole(row, "vn_v", described[3]), self.whole(row, "p_kw", described[4]), self.whole(row, "q_kvar", described[5])]
+        words = [self.name(row, "node"), self.word(row, "phase", tuple(format.LOAD_SIGNS)), self.word(row, "kind", tuple(format.LOAD_KINDS))]
+        described = format.columns_of(format.LOADS, words)[format.RATED_VOLTAGE:]
+        return words + [self.whole(row, column, one) for column, one in zip(("vn_v", "p_kw", "q_kvar"), described)]
 
     def feeder_text(self):
         """The whole file; of use only where nothing was refused."""

@@ -1,4 +1,4 @@
-"""Document 01's equations in whole numbers, to say in which row a refusal from 30 to 34 or from 53 to 55 arises.
+"""The equations of documents 01 and 02 in whole numbers, to say in which row a refusal from 30 to 34 or from 53 to 55 arises.
 
 The proved programs give the answer. What is worked out here is only told where it comes to the same answer. Complex numbers are pairs
 (re, im) of whole numbers, and what a node or a branch has on its phases is a list of three of them.
@@ -6,7 +6,7 @@ The proved programs give the answer. What is worked out here is only told where 
 import collections
 import math
 
-from .format import CURRENT_LIMIT, CURRENTS, GRAINS_IN_A_WATT, NODES, PHASES, TOTALS, VOLTAGE_LIMIT, header
+from .format import CURRENT_LIMIT, CURRENTS, GRAINS_IN_A_WATT, LOAD_SIGNS, NODES, PHASES, TOTALS, VOLTAGE_LIMIT, header
 
 ZERO = (0, 0)
 MICRO_OHM_MILLIAMPERES_IN_A_CENTIVOLT = 10000000
@@ -58,6 +58,16 @@ def total(pairs):
 
 def beyond(pair, limit):
     return abs(pair[0]) > limit or abs(pair[1]) > limit
+
+
+def load_voltage(load, voltages):
+    """The load's voltage, from those of its node: its phase's, or the first phase's less the second's."""
+    return total(scaled(sign, voltage) for sign, voltage in zip(LOAD_SIGNS[load.phase], voltages))
+
+
+def spread(load, current):
+    """What the load's one current adds to the current of each phase: it goes out on the first phase and comes back on the second."""
+    return [scaled(sign, current) for sign in LOAD_SIGNS[load.phase]]
 
 
 def load_current(load, voltage):
@@ -129,8 +139,8 @@ def from_source_down(feeder):
     return ordered
 
 
-def base_voltages(feeder):
-    """|V| in cV on each phase if no current flowed and every tap stood at 0: the source's, stepped by transformers."""
+def base_phasors(feeder):
+    """V in cV on each phase, not rounded, if no current flowed and every tap stood at 0: the source's, stepped by transformers."""
     phasors = {feeder.source.name: [complex(*pair) for pair in feeder.source.voltage]}
     for branch in from_source_down(feeder):
         above = phasors[branch.from_node]
@@ -139,7 +149,12 @@ def base_voltages(feeder):
         if branch.kind in "YD":
             above = [value * branch.parameters[1] / branch.parameters[0] for value in above]
         phasors[branch.to_node] = above
-    return {node: [abs(value) for value in values] for node, values in phasors.items()}
+    return phasors
+
+
+def base_voltages(feeder):
+    """The sizes of the base phasors."""
+    return {node: [abs(value) for value in values] for node, values in base_phasors(feeder).items()}
 
 
 def currents_at(feeder, voltages, sweep):
@@ -147,17 +162,17 @@ def currents_at(feeder, voltages, sweep):
 
     Gives (load currents, currents, Trouble or None), the refusals 30 to 32 in their order.
     """
-    places = [(load, PHASES.index(load.phase)) for load in feeder.loads]
-    for load, place in places:
-        if load.kind != "Z" and voltages[load.node][place] == ZERO:
+    at = [load_voltage(load, voltages[load.node]) for load in feeder.loads]
+    for load, voltage in zip(feeder.loads, at):
+        if load.kind != "Z" and voltage == ZERO:
             return None, None, Trouble(30, sweep, load, load.phase, ZERO)
-    taken = [load_current(load, voltages[load.node][place]) for load, place in places]
-    for (load, place), current in zip(places, taken):
+    taken = [load_current(load, voltage) for load, voltage in zip(feeder.loads, at)]
+    for load, current in zip(feeder.loads, taken):
         if beyond(current, CURRENT_LIMIT):
             return None, None, Trouble(31, sweep, load, load.phase, current)
     currents = {node: [ZERO] * 3 for node in voltages}
-    for (load, place), current in zip(places, taken):
-        currents[load.node][place] = plus(currents[load.node][place], current)
+    for load, current in zip(feeder.loads, taken):
+        currents[load.node] = [plus(one, other) for one, other in zip(currents[load.node], spread(load, current))]
     trouble = None
     for branch in reversed(from_source_down(feeder)):
         current = currents[branch.to_node]
@@ -220,7 +235,7 @@ def powers(feeder, voltages, load_currents, currents):
     losses = {branch.to_node: loss(branch, currents[branch.to_node]) for branch in feeder.branches}
     source = total(times(one, conjugate(other)) for one, other in zip(feeder.source.voltage, currents[feeder.source.name]))
     drawn = total(
-        times(voltages[load.node][PHASES.index(load.phase)], conjugate(current)) for load, current in zip(feeder.loads, load_currents)
+        times(load_voltage(load, voltages[load.node]), conjugate(current)) for load, current in zip(feeder.loads, load_currents)
     )
     return losses, source, drawn, total(losses.values())
 

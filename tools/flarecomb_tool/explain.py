@@ -18,7 +18,7 @@ RULES = {
     22: "Each branch is reached from the source.",
     23: "The phases of a branch or a load are among those of its node; a transformer has ABC.",
     24: "A field without a meaning, or of an absent phase, is 0.",
-    30: "A load of kind P or I has voltage 0. Look at the source voltage of its phase and at turns ratios.",
+    30: "A load of kind P or I has voltage 0. Look at the source voltage of its phases and at turns ratios.",
     31: "A load's current, re or im, is beyond 2000 A. Look at p, q, vn, the source voltage and turns ratios.",
     32: "A branch's current, re or im, is beyond 2000 A. Look at the loads behind it and at turns ratios.",
     33: "A voltage, re or im, is beyond 20000 V. Look at the source voltage, turns ratios, taps and loads.",

@@ -3,7 +3,7 @@ import collections
 import decimal
 import re
 
-from .format import BRANCH_KINDS, BRANCH_PHASES, LOAD_KINDS, LONGEST_NAME, MOST_DIGITS, NUMBER, read_field
+from .format import BRANCH_KINDS, BRANCH_PHASES, LOAD_KINDS, LOAD_SIGNS, LONGEST_NAME, MOST_DIGITS, NUMBER, read_field
 from .wording import begun, lines_said, listed, visible, volts
 
 UNITS_SAID = {
@@ -340,13 +340,15 @@ def _phases_fault(field, kind):
 
 
 def _load_phase_fault(field):
-    letters = "".join(sorted(field.strip().upper().decode("latin-1")))
-    if letters in ("AB", "AC", "BC"):
-        return ["A load between two phases (delta) is not covered: each row is a load from one phase to ground."]
-    if letters == "ABC":
-        return ["A load on three phases has a row for each phase, with that phase's share of p and q."]
-    if letters in ("A", "B", "C"):
+    # two phases are also written with a mark between them, as A-B
+    letters = re.sub("[-/ ]", "", field.strip().upper().decode("latin-1"))
+    if letters in LOAD_SIGNS:
         return [f"Write {letters}."]
+    if letters[::-1] in LOAD_SIGNS:
+        return [f"A load between two phases is written AB, BC or CA. Write {letters[::-1]}: turned round it is the same load, with the same p and q."]
+    if "".join(sorted(letters)) == "ABC":
+        return ["A load on three phases has three rows, each with its share of p and q: A, B and C where it stands between phase and ground, "
+                "AB, BC and CA where it stands between two phases."]
     return []
 
 

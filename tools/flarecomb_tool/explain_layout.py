@@ -4,7 +4,7 @@ import re
 
 from .explain_fields import Context, field_fault, further_faults, short_advice
 from .format import (
-    BRANCHES, FEEDER_TABLES, FIRST_PARAMETER, PARAMETERS, REPORT_TABLES, Reading, header, read_field, read_row, split_lines,
+    BRANCHES, FEEDER_TABLES, FIRST_PARAMETER, REPORT_TABLES, Reading, columns_of, header, read_field, read_row, split_lines,
 )
 from .power import nearest_root, square
 from .wording import begun, counted, lines_said, listed, visible
@@ -298,12 +298,8 @@ def _count_fault(reading, line, fields):
 
 
 def column_of(table, place, fields):
-    """The column at a place of a row; of p1 to p12 the one of the row's kind, where the kind is known."""
-    if table is BRANCHES and place >= FIRST_PARAMETER:
-        kind = fields[FIRST_PARAMETER - 1].decode("latin-1")
-        if kind in PARAMETERS:
-            return PARAMETERS[kind][place - FIRST_PARAMETER]
-    return table.columns[place]
+    """The column at a place of a row given as fields of bytes."""
+    return columns_of(table, [field.decode("latin-1") for field in fields])[place]
 
 
 def _context(reading, fields, name):

@@ -1,5 +1,5 @@
 """Where the branches do not form a tree from the source, or phases do not reach a row: refusals 20 to 23."""
-from .format import BRANCH_KINDS
+from .format import BRANCH_KINDS, load_phases
 from .wording import begun, listed, phases_said
 
 # Letters and digits that are mistaken for one another.
@@ -177,6 +177,7 @@ def absent_phase(feeder, number):
     if above is None:
         first = f"Column node has {load.node}: no branch feeds such a node, and it is not the source ({feeder.source.name})."
         return [first] + _like(load.node, feeder) + _nodes_said(feeder)
-    if load.phase in above[0]:
+    phases = load_phases(load.phase)
+    if set(phases) <= set(above[0]):
         return []
-    return [f"The load is on phase {load.phase}, but node {load.node} has {phases_said(above[0])} alone ({above[1]})."]
+    return [f"The load is on {phases_said(phases)}, but node {load.node} has {phases_said(above[0])} alone ({above[1]})."]

@@ -1,9 +1,9 @@
 """Where currents or voltages leave their limits, or do not settle: refusals 30 to 34, also 30 to 32 of the check."""
 from . import equations
 from .explain_units import source_hint, vn_hint
-from .format import CURRENT_LIMIT, PHASES, VOLTAGE_LIMIT
+from .format import CURRENT_LIMIT, PHASES, VOLTAGE_LIMIT, is_between, load_phases
 from .power import nearest_root, square
-from .wording import amperes, counted, listed, ohms, volts
+from .wording import amperes, between_said, counted, listed, ohms, volts
 
 MOST_SWEEPS = 100
 MOST_TOL = 1000
@@ -52,18 +52,17 @@ def _above(feeder, node):
     return way
 
 
-def _largest_impedance(feeder, node, phase):
-    """The row on the way from the source that has the largest impedance on a phase, as a sentence; none where all are 0."""
-    place = PHASES.index(phase)
+def _largest_impedance(feeder, node, phases):
+    """The row on the way from the source that has the largest impedance on one of the phases, as a sentence; none where all are 0."""
     first = {"L": (0, 6, 10), "Y": (2, 4, 6), "D": (2, 4, 6)}  # the place of r of each phase's own impedance among p1 to p12
     sizes = []
     for branch in _above(feeder, node):
-        if branch.kind in first:
-            at = first[branch.kind][place]
-            sizes.append((_size(branch.parameters[at : at + 2]), branch.parameters[at : at + 2], branch))
+        for phase in phases if branch.kind in first else ():
+            at = first[branch.kind][PHASES.index(phase)]
+            sizes.append((_size(branch.parameters[at : at + 2]), branch.parameters[at : at + 2], branch, phase))
     if not sizes or max(sizes, key=lambda entry: entry[0])[0] == 0:
         return []
-    _, (r, x), branch = max(sizes, key=lambda entry: entry[0])
+    _, (r, x), branch, phase = max(sizes, key=lambda entry: entry[0])
     return [f"The largest impedance on its way is that of line {branch.line} ({branch.from_node},{branch.to_node}): "
             f"r {ohms(r)} and x {ohms(x)} on phase {phase}."]
 
@@ -72,14 +71,16 @@ def _zero_voltage(feeder, trouble, in_check):
     load = trouble.row
     sentences = [f"{_load_said(load)} has voltage 0: a load of kind P or I has no current there."]
     way = _above(feeder, load.node)
-    place = PHASES.index(load.phase)
+    between = is_between(load.phase)
+    same = f"the same voltage on {listed(load.phase)}"
     if in_check:
-        return sentences + [f"The report has 0 for phase {load.phase} of node {load.node}."]
+        return sentences + [f"The report has {same if between else f'0 for phase {load.phase}'} of node {load.node}."]
     deltas = [branch for branch in way if branch.kind == "D"]
-    if not deltas and feeder.source.voltage[place] == equations.ZERO:
-        return sentences + [f"The source (line {feeder.source.line}) has 0 on phase {load.phase}."]
+    if not deltas and equations.load_voltage(load, feeder.source.voltage) == equations.ZERO:
+        return sentences + [f"The source (line {feeder.source.line}) has {same if between else f'0 on phase {load.phase}'}."]
     if deltas:
-        sentences.append(f"Line {deltas[-1].line} is a delta transformer: it gives 0 where two of the voltages above it are equal.")
+        gives = f"{same} here" if between else "0 where two of the voltages above it are equal"
+        sentences.append(f"Line {deltas[-1].line} is a delta transformer: it gives {gives}.")
         return sentences + [_source_said(feeder)]
     ratios = [branch for branch in way if branch.kind == "Y"]
     if ratios:
@@ -91,7 +92,7 @@ def _load_current(feeder, trouble, voltage):
     load = trouble.row
     sentences = [
         f"{_load_said(load)} takes {listed(amperes(part) for part in trouble.value)} (re and im): the limit is {amperes(CURRENT_LIMIT)} for each.",
-        f"Its voltage is {volts(_size(voltage))}"
+        f"Its voltage is {volts(_size(voltage))}{between_said(load.phase)}"
         + (f", its rated voltage vn {volts(load.vn)}." if load.kind != "P" else "."),
     ]
     units = vn_hint(feeder, load) or vn_hint(feeder)
@@ -99,7 +100,7 @@ def _load_current(feeder, trouble, voltage):
     if trouble.sweep > 1 and not units and not source_hint(feeder):
         sentences.append("Its voltage fell in the sweeps before: more constant-power load than the branches above can carry, "
                          "or impedances that are too large.")
-        sentences += _largest_impedance(feeder, load.node, load.phase)
+        sentences += _largest_impedance(feeder, load.node, load_phases(load.phase))
     return sentences + [_source_said(feeder)]
 
 
@@ -180,7 +181,7 @@ def study_fault(feeder, number, value):
     if number == 30:
         return _zero_voltage(feeder, trouble, False)
     if number == 31:
-        return _load_current(feeder, trouble, studied.voltages[trouble.row.node][PHASES.index(trouble.phase)])
+        return _load_current(feeder, trouble, equations.load_voltage(trouble.row, studied.voltages[trouble.row.node]))
     if number == 32:
         return _branch_current(feeder, trouble)
     if number == 33:
@@ -196,5 +197,5 @@ def check_fault(feeder, voltages, number):
     if number == 30:
         return _zero_voltage(feeder, trouble, True)
     if number == 31:
-        return _load_current(feeder, trouble, voltages[trouble.row.node][PHASES.index(trouble.phase)])[:2]
+        return _load_current(feeder, trouble, equations.load_voltage(trouble.row, voltages[trouble.row.node]))[:2]
     return _branch_current(feeder, trouble)[:2]

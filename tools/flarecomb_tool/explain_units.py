@@ -3,9 +3,9 @@ import math
 import statistics
 
 from . import equations
-from .format import PHASES, VOLTAGE_LIMIT
+from .format import LOAD_SIGNS, VOLTAGE_LIMIT, is_between
 from .power import nearest_root, square
-from .wording import lines_said, volts
+from .wording import between_said, lines_said, volts
 
 # Every voltage that a feeder may have, written in V by mistake, is below this many cV.
 LOW_SOURCE = 20001
@@ -22,18 +22,23 @@ def _source_sizes(feeder):
     return [nearest_root(square(pair)) for pair in feeder.source.voltage]
 
 
+def _base_of(load, phasors):
+    """The size of the load's voltage, from the base phasors of a node."""
+    return abs(sum(sign * phasor for sign, phasor in zip(LOAD_SIGNS[load.phase], phasors)))
+
+
 def _rated(feeder):
-    """(load, voltage at its node without any current, size of the source's voltage that would suit its vn) where these are not 0."""
-    base = equations.base_voltages(feeder)
-    sizes = _source_sizes(feeder)
+    """(load, its voltage without any current, size of the source's voltage to ground that would suit its vn) where these are not 0."""
+    base = equations.base_phasors(feeder)
     found = []
     for load in feeder.loads:
-        place = PHASES.index(load.phase)
-        voltage = round(base[load.node][place])
-        if voltage and sizes[place]:
-            ratio = base[load.node][place] / sizes[place]
+        size, source_size = (_base_of(load, base[node]) for node in (load.node, feeder.source.name))
+        if round(size) and round(source_size):
+            # Between phases vn is 1.73 times the voltage to ground, also where one phase of the source is wrong.
+            to_ground = load.vn / math.sqrt(3) if is_between(load.phase) else load.vn
+            ratio = size / source_size
             # The source's parts are rounded; without a transformer vn is the source's voltage as it stands.
-            found.append((load, voltage, load.vn if abs(ratio - 1) < 0.01 else round(load.vn / ratio)))
+            found.append((load, round(size), round(to_ground if abs(ratio - 1) < 0.01 else to_ground / ratio)))
     return found
 
 
@@ -77,12 +82,13 @@ def vn_hint(feeder, load=None):
     if first is None:
         return []
     vn, voltage = first[0].vn, first[1]
-    said = "" if load is not None else f"vn in line {first[0].line} is {volts(vn)}, its node {first[0].node} has {volts(voltage)} without load. "
+    has = volts(voltage) + between_said(first[0].phase)
+    said = "" if load is not None else f"vn in line {first[0].line} is {volts(vn)}, its node {first[0].node} has {has} without load. "
     factor, unit = next(((factor, unit) for factor, unit in ((100, "V"), (100000, "kV")) if _near(vn * factor, voltage)), (None, None))
     if factor:
         said += f"vn is in cV: if {vn} {unit} is meant, it is {vn * factor}."
     else:
-        said += f"vn is in cV: the {volts(voltage)} of its node are {voltage}."
+        said += f"vn is in cV: the {has} of its node are {voltage}."
     others = [(other, at) for other, at in wrong if other is not first[0]]
     same = [other.line for other, at in others if factor and _near(other.vn * factor, at)]
     rest = [other.line for other, at in others if other.line not in same]

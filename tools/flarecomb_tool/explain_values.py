@@ -1,8 +1,8 @@
 """Which value is outside its limit (11), and which should be 0 (24)."""
 from .explain_fields import LARGER_UNITS, UNITS_SAID, label
 from .format import (
-    BRANCH_KINDS, BRANCH_PHASES, BRANCHES, FEEDER_TABLES, FIRST_PARAMETER, LOADS, PARAMETERS, Reading, is_unused, outside_limit,
-    zero_is_due,
+    BRANCH_KINDS, BRANCH_PHASES, BRANCHES, FEEDER_TABLES, FIRST_PARAMETER, LOAD_PHASE, LOADS, PARAMETERS, Reading, columns_of, is_between,
+    is_unused, outside_limit, zero_is_due,
 )
 from .wording import begun, listed, phases_said
 
@@ -20,14 +20,6 @@ def rows_by_line(data):
 def has_fault(row):
     """Whether a row of rows_by_line has 11 or 24."""
     return bool(_limit_fault(*row) or _zero_fault(*row))
-
-
-def columns_of(table, values):
-    """(column, value) of a row; p1 to p12 as the row's kind has them."""
-    columns = table.columns
-    if table is BRANCHES:
-        columns = columns[:FIRST_PARAMETER] + PARAMETERS[values[FIRST_PARAMETER - 1]]
-    return list(zip(columns, values))
 
 
 def limits_said(column):
@@ -55,6 +47,8 @@ def _why_outside(table, column, value, values):
     if column.name == "vn":
         if value == 0 and values[2] == "P":
             return ["vn must be given for kind P too, where it is not used."]
+        if is_between(values[LOAD_PHASE]):
+            return ["vn is the voltage between the two phases."]
         return ["vn is the voltage to ground."]
     if column.unit in ("W", "var"):
         return ["The unit is W or var, neither kW nor grains. A larger load is split over rows: rows at one node and phase add up."]
@@ -75,7 +69,9 @@ def _limit_fault(table, place, values):
     if table.limit_rows is not None and place > table.limit_rows:
         more = ["Loads at one node and phase that have the same kind and vn can be added into one row."] if table is LOADS else ["Split the feeder."]
         return [f"This is row {place} of the {table.name} table, which has at most {table.limit_rows}."] + more
-    outside = [(column, value) for column, value in columns_of(table, values) if isinstance(value, int) and outside_limit(column, value)]
+    outside = [
+        (column, value) for column, value in zip(columns_of(table, values), values) if isinstance(value, int) and outside_limit(column, value)
+    ]
     if not outside:
         return []
     sentences = [
@@ -118,7 +114,7 @@ def _zero_fault(table, _, values):
     if table is not BRANCHES:
         return []
     phases, kind = values[2], values[3]
-    parameters = columns_of(BRANCHES, values)[FIRST_PARAMETER:]
+    parameters = list(zip(columns_of(BRANCHES, values), values))[FIRST_PARAMETER:]
     wrong = [(column, value) for column, value in parameters if value != 0 and zero_is_due(column, phases)]
     if not wrong:
         return []

@@ -1,4 +1,4 @@
-"""The feeder file and the report as document 01 lays them out: columns, units, limits, and a reader of each file.
+"""The feeder file and the report as documents 01 and 02 lay them out: columns, units, limits, and a reader of each file.
 
 The proved programs decide what a file is worth. What stands here serves to speak about a file: to name a column, its unit and its limit,
 and to have the rows of a file that is well laid out.
@@ -12,6 +12,7 @@ MOST_LOADS = 300
 LONGEST_NAME = 8
 MOST_DIGITS = 18
 VOLTAGE_LIMIT = 2000000
+VOLTAGE_BETWEEN_LIMIT = 4000000
 CURRENT_LIMIT = 2000000
 IMPEDANCE_LIMIT = 100000000
 POWER_LIMIT = 3000000
@@ -26,9 +27,25 @@ BRANCH_KINDS = {
     "D": "transformer, delta to grounded wye",
 }
 LOAD_KINDS = {"P": "constant power", "I": "constant current", "Z": "constant impedance"}
+# What a load stands between, by the word of its phase: the signs that A, B and C have in its voltage, and its current in theirs.
+LOAD_SIGNS = {
+    "A": (1, 0, 0), "B": (0, 1, 0), "C": (0, 0, 1),
+    "AB": (1, -1, 0), "BC": (0, 1, -1), "CA": (-1, 0, 1),
+}
 
 NUMBER = re.compile(rb"0|-?[1-9][0-9]{0,%d}" % (MOST_DIGITS - 1))
 NAME = re.compile(rb"[A-Z0-9]{1,%d}" % LONGEST_NAME)
+
+
+def load_phases(word):
+    """The phases that a load with this word stands on, in the order A, B, C: all of them must be present at its node."""
+    return [phase for phase, sign in zip(PHASES, LOAD_SIGNS[word]) if sign]
+
+
+def is_between(word):
+    """Whether a load with this word stands between two phases, and not between a phase and ground."""
+    return len(load_phases(word)) == 2
+
 
 # form is "name", "number" or the tuple of the words that may stand in the column. least and most are the limits of refusal 11 (of 50 in
 # a report), None where there are none. phases are those that the column belongs to: where one of them is absent, 0 is due.
@@ -87,14 +104,15 @@ LOADS = Table(
     "loads",
     (
         Column("node", "name", "the node where the load stands"),
-        Column("phase", PHASES, "the phase of the load"),
+        Column("phase", tuple(LOAD_SIGNS), "the phase of the load, or the two that it stands between"),
         Column("kind", tuple(LOAD_KINDS), "constant power, current or impedance"),
-        Column("vn", "number", "rated voltage to ground", "cV", 1, VOLTAGE_LIMIT),
+        Column("vn", "number", "rated voltage", "cV", 1, VOLTAGE_BETWEEN_LIMIT),
         Column("p", "number", "rated power", "W", -POWER_LIMIT, POWER_LIMIT),
         Column("q", "number", "rated reactive power", "var", -POWER_LIMIT, POWER_LIMIT),
     ),
     0, None, MOST_LOADS,
 )
+LOAD_PHASE, RATED_VOLTAGE = 1, 3  # the places of phase and vn among the load columns
 
 NODES = Table(
     "voltages",
@@ -161,6 +179,25 @@ PARAMETERS = {
     "Y": _TRANSFORMER,
     "D": _TRANSFORMER,
 }
+
+
+# What vn is, by the word of the load's phase.
+RATED_VOLTAGES = {
+    word: Column("vn", "number", f"rated voltage between {word[0]} and {word[1]}", "cV", 1, VOLTAGE_BETWEEN_LIMIT) if is_between(word)
+    else Column("vn", "number", "rated voltage to ground", "cV", 1, VOLTAGE_LIMIT)
+    for word in LOAD_SIGNS
+}
+
+
+def columns_of(table, words):
+    """The columns of a row: p1 to p12 as a branch's kind has them, vn as a load's phase has it. words are the row's fields as texts;
+    where they do not tell kind or phase, the columns are those of the table."""
+    columns = table.columns
+    if table is BRANCHES and words[FIRST_PARAMETER - 1] in PARAMETERS:
+        return columns[:FIRST_PARAMETER] + PARAMETERS[words[FIRST_PARAMETER - 1]]
+    if table is LOADS and words[LOAD_PHASE] in RATED_VOLTAGES:
+        return columns[:RATED_VOLTAGE] + (RATED_VOLTAGES[words[LOAD_PHASE]],) + columns[RATED_VOLTAGE + 1:]
+    return columns
 
 
 def is_unused(column):

@@ -7,7 +7,7 @@ from .equations import ZERO, conjugate, minus, plus, times, total
 
 # What a load row draws at the reported voltage: current in mA, rating and drawn power in grains; None where refusal 30 stands.
 LoadFlow = collections.namedtuple("LoadFlow", "load voltage current rating drawn")
-# The power account of document 01, in grains: pairs of real and reactive power, and one allowance for twice the difference of each.
+# The power account, in grains: pairs of real and reactive power, and one allowance for twice the difference of each.
 Account = collections.namedtuple("Account", "source ratings losses difference allowance within")
 Extreme = collections.namedtuple("Extreme", "per_unit node phase voltage")
 
@@ -26,7 +26,7 @@ def check_limits(feeder):
     source = feeder.source
     rows = [(source.line, format.SOURCE.columns[1:], [part for pair in source.voltage for part in pair] + [source.tol, source.sweeps])]
     rows += [(branch.line, format.PARAMETERS[branch.kind], branch.parameters) for branch in feeder.branches]
-    rows += [(load.line, format.LOADS.columns[3:], (load.vn, load.p, load.q)) for load in feeder.loads]
+    rows += [(load.line, format.columns_of(format.LOADS, load[1:])[format.RATED_VOLTAGE:], (load.vn, load.p, load.q)) for load in feeder.loads]
     for line, columns, values in rows:
         if any(format.outside_limit(column, value) for column, value in zip(columns, values)):
             raise CannotJoin(11, line)
@@ -55,7 +55,7 @@ def check_radial_form(feeder):
         if branch.kind in "YD" and branch.phases != "ABC" or not set(branch.phases) <= set(phases[branch.from_node]):
             raise CannotJoin(23, branch.line)
     for load in feeder.loads:
-        if load.phase not in phases.get(load.node, ""):
+        if not set(format.load_phases(load.phase)) <= set(phases.get(load.node, "")):
             raise CannotJoin(23, load.line)
 
 
@@ -98,7 +98,7 @@ class Joined:
         self.loads = [self.load_flow(load) for load in feeder.loads]
 
     def load_flow(self, load):
-        voltage = self.voltage[load.node][format.PHASES.index(load.phase)]
+        voltage = equations.load_voltage(load, self.voltage[load.node])
         current = power.load_current(load, voltage)
         drawn = None if current is None else times(voltage, conjugate(current))
         return LoadFlow(load, voltage, current, power.load_rating(load, voltage), drawn)
@@ -131,7 +131,7 @@ class Joined:
         if any(flow.current is None for flow in self.loads):
             return None
         tol = self.feeder.source.tol
-        allowance = sum(power.load_allowance(tol, flow.current, flow.voltage) for flow in self.loads)
+        allowance = sum(power.load_allowance(flow.load, tol, flow.current, flow.voltage) for flow in self.loads)
         losses = ZERO
         for branch in self.feeder.branches:
             current = self.current[branch.to_node].current

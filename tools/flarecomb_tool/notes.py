@@ -7,7 +7,7 @@ import collections
 from . import format, power
 from .equations import ZERO
 from .joined import CannotJoin, Joined
-from .wording import begun, lines_said, listed, ohms, volts, watts
+from .wording import begun, between_said, lines_said, listed, ohms, volts, watts
 
 # line is that of the feeder, None where the note is on the feeder as a whole.
 Note = collections.namedtuple("Note", "line text")
@@ -125,8 +125,10 @@ def _rated_voltages(joined):
         load, size = flow.load, power.nearest_root(power.square(flow.voltage))
         if size and not LEAST_RATED <= load.vn / size <= MOST_RATED:
             use = " (vn is not used in a P row)" if load.kind == "P" else ""
-            found.append(Note(load.line, f"vn is {volts(load.vn)}, its node {load.node} has {volts(size)} on {load.phase}{use}; "
-                              "vn is in cV and to ground"))
+            between = between_said(load.phase)
+            rule = "from phase to phase, about 1.73 times that to ground" if between else "to ground"
+            found.append(Note(load.line, f"vn is {volts(load.vn)}, its node {load.node} has {volts(size)}{between or f' on {load.phase}'}{use}; "
+                              f"vn is in cV and {rule}"))
     return found
 
 

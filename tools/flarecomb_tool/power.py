@@ -1,11 +1,11 @@
-"""The power account of demand 3 in whole numbers: ratings, exact losses and allowances, as document 01 defines them.
+"""The power account of demand 3 in whole numbers: ratings, exact losses and allowances, as documents 01 and 02 define them.
 
 Voltages and currents are pairs (re, im) in cV and mA, powers pairs (p, q) in grains (0.00001 W)."""
 import math
 
 from . import equations
 from .equations import ZERO, conjugate, rounded_pair, scaled, times, total
-from .format import GRAINS_IN_A_WATT, PHASES
+from .format import GRAINS_IN_A_WATT, PHASES, load_phases
 
 
 def square(pair):
@@ -52,8 +52,9 @@ def exact_loss(matrix, currents):
     return rounded_pair(total(products), equations.MICRO_OHM_MILLIAMPERES_IN_A_CENTIVOLT)
 
 
-def load_allowance(tol, current, voltage):
-    return 2 * tol * size(current) + size(voltage) + 1
+def load_allowance(load, tol, current, voltage):
+    """2·tol counts once for each phase that the row's voltage comes from: twice for a row between two phases."""
+    return 2 * tol * len(load_phases(load.phase)) * size(current) + size(voltage) + 1
 
 
 def branch_allowance(branch, tol, currents, from_voltages):

@@ -2,6 +2,7 @@
 import unicodedata
 
 from .equations import rounded
+from .format import is_between
 
 LONGEST_QUOTE = 200
 
@@ -68,6 +69,11 @@ def lines_said(numbers):
 def phases_said(phases):
     """'phase A', 'phases A and B'"""
     return ("phase " if len(phases) == 1 else "phases ") + listed(phases)
+
+
+def between_said(word):
+    """' between A and B' for a load that stands between two phases, '' for one to ground; word is that of its phase."""
+    return f" between {word[0]} and {word[1]}" if is_between(word) else ""
 
 
 def decimal_text(number, unit_exponent, places):

@@ -4,10 +4,12 @@ import contextlib
 import io
 import subprocess
 
-from flarecomb_tool import format, joined
+from flarecomb_tool import equations, format, joined
 from tests.support import EXAMPLES, PROGRAMS
 
 SOURCE_ROW = "S,720000,0,-360000,-623538,-360000,623538,1,20"
+# A and B stand opposite each other, so that a load between them has 12000 V.
+OPPOSITE_ROW = "S,600000,0,-600000,0,0,0,1,20"
 
 
 def run(module, *words):
@@ -26,6 +28,12 @@ def run(module, *words):
 def study(feeder):
     """What the proved study writes for a feeder's text."""
     return subprocess.run([PROGRAMS / "study"], input=feeder, capture_output=True, text=True, check=True).stdout
+
+
+def worked_report(feeder):
+    """The report of a feeder's text by the equations of the tools, where no program is needed."""
+    read = format.read_feeder(feeder.encode())
+    return "\n".join(equations.report_lines(read, equations.study(read))) + "\n"
 
 
 def join(feeder, report):

@@ -171,11 +171,44 @@ MISTAKES = (
         "    N3,A,P,720000,+120000,40000",
         "Column p (rated power) has +120000: no plus stands before a number. Write 120000.",
     )),
-    Mistake("delta_load", None, 10, 10, (
+    Mistake("delta_load_ac", None, 10, 13, (
+        "the feeder, line 13:",
+        "    N1,AC,P,1247077,50000,10000",
+        "Column phase (the phase of the load, or the two that it stands between) has AC: A, B, C, AB, BC or CA is due.",
+        "A load between two phases is written AB, BC or CA. Write CA: turned round it is the same load, with the same p and q.",
+    )),
+    Mistake("delta_load_with_a_mark", None, 10, 13, (
+        "the feeder, line 13:",
+        "    N1,B-C,P,1247077,50000,10000",
+        "Column phase (the phase of the load, or the two that it stands between) has B-C: A, B, C, AB, BC or CA is due.",
+        "Write BC.",
+    )),
+    Mistake("delta_load_phase_absent", None, 23, 10, (
         "the feeder, line 10:",
         "    N3,AB,P,720000,120000,40000",
-        "Column phase (the phase of the load) has AB: A, B or C is due.",
-        "A load between two phases (delta) is not covered: each row is a load from one phase to ground.",
+        "The load is on phases A and B, but node N3 has phase A alone (fed by line 7 (N2,N3)).",
+    )),
+    Mistake("delta_load_vn_beyond_limit", None, 11, 13, (
+        "the feeder, line 13:",
+        "    N1,CA,I,4000001,50000,10000",
+        "Column vn (rated voltage between C and A) has 4000001, that is 40000.01 V: the limit is 1 to 4000000 in cV (0.01 V).",
+        "vn is the voltage between the two phases.",
+    )),
+    Mistake("delta_load_between_equal_phases", None, 30, 1, (
+        "the feeder:",
+        "The load in line 13 (node N1, phase AB, kind I, p 50000 W, q 10000 var) has voltage 0: a load of kind P or I has no current there.",
+        "The source (line 2) has the same voltage on A and B.",
+    )),
+    Mistake("delta_load_vn_in_volts", None, 31, 1, (
+        "the feeder:",
+        "The load in line 13 (node N1, phase AB, kind Z, p 50000 W, q 10000 var) takes 38736.355 A and 13104.040 A (re and im): the limit is 2000.000 A for each.",
+        "Its voltage is 12470.76 V between A and B, its rated voltage vn 124.70 V.",
+        "vn is in cV: if 12470 V is meant, it is 1247000.",
+        "The source (line 2) has 7200.00 V on A, 7200.00 V on B and 7200.00 V on C.",
+    )),
+    Mistake("delta_load_vn_to_ground", None, 0, 0, (
+        "The report is made. Please look at:",
+        "Line 13: vn is 7200.00 V, its node N1 has 12466.18 V between B and C; vn is in cV and from phase to phase, about 1.73 times that to ground.",
     )),
     Mistake("load_kind_pq", None, 10, 10, (
         "the feeder, line 10:",
@@ -376,8 +409,8 @@ MISTAKES = (
     Mistake("load_on_three_phases", None, 10, 13, (
         "the feeder, line 13:",
         "    N1,ABC,P,720000,50000,10000",
-        "Column phase (the phase of the load) has ABC: A, B or C is due.",
-        "A load on three phases has a row for each phase, with that phase's share of p and q.",
+        "Column phase (the phase of the load, or the two that it stands between) has ABC: A, B, C, AB, BC or CA is due.",
+        "A load on three phases has three rows, each with its share of p and q: A, B and C where it stands between phase and ground, AB, BC and CA where it stands between two phases.",
     )),
     Mistake("phases_with_neutral", None, 10, 5, (
         "the feeder, line 5:",

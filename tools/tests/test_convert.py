@@ -167,12 +167,18 @@ class Sheets(ConvertCase):
             branches = [f"S,N{place},{phases},L," + ",".join(
                 str(chance.randint(-100000000, 100000000)) if set(pair.upper()) <= set(phases) else "0" for pair in convert.LINE_PAIRS for _ in "rx")
                 for place, phases in enumerate(chance.choices(format.BRANCH_PHASES, k=5))]
-            loads = [f"N{place},{chance.choice('ABC')},{chance.choice('PIZ')},{chance.randint(1, 2000000)},{chance.randint(-3000000, 3000000)},"
-                     f"{chance.randint(-999, 999)}" for place in range(5)]
+            loads = [f"N{place},{phase},{chance.choice('PIZ')},{chance.randint(1, 2000000 * len(phase))},{chance.randint(-3000000, 3000000)},"
+                     f"{chance.randint(-999, 999)}" for place, phase in enumerate(chance.choices(list(format.LOAD_SIGNS), k=5))]
             source = "S," + ",".join(str(chance.randint(-2000000, 2000000)) for _ in range(6)) + f",{chance.randint(0, 1000)},{chance.randint(1, 100)}"
             feeder = commands.feeder_text(source, branches, loads)
             self.assertEqual(self.convert(*sheets_of(feeder)), (0, []))
             self.assertEqual(self.output.read_text(), feeder)
+
+    def test_loads_between_two_phases(self):
+        loads = "node,phase,kind,vn_v,p_kw,q_kvar\nN1,ab,P,12470.77,30,18\nN1,BC,I,40000,37,23\nN1,CA,Z,0.01,0,-20\n"
+        self.assertEqual(self.convert(SOURCE_SHEET, BRANCH_SHEET, loads), (0, []))
+        self.assertTrue(self.output.read_text().endswith(
+            "\nN1,AB,P,1247077,30000,18000\nN1,BC,I,4000000,37000,23000\nN1,CA,Z,1,0,-20000\n"), self.output.read_text())
 
     def test_help_names_every_column(self):
         for column in ("source", "va_re_v", "vc_im_v", "va_deg", "vc_deg", "tol_v", "sweeps", "turns_n", "turns_m", *convert.TAP_COLUMNS,
@@ -199,6 +205,15 @@ class Refusals(ConvertCase):
             "sheet3.csv, row 2, column vn_v: outside 0.01 to 20000 V",
             "sheet3.csv, row 2, column p_kw: outside -3000 to 3000 kW")
 
+    def test_rated_voltages_by_the_phase(self):
+        for phase, volts, least_and_most in (("C", "20000.01", "0.01 to 20000"), ("CA", "40000.01", "0.01 to 40000"), ("BC", "0", "0.01 to 40000")):
+            with self.subTest(phase):
+                self.assert_refused([SOURCE_SHEET, BRANCH_SHEET, LOAD_SHEET.replace("A,P,7200", f"{phase},P,{volts}")],
+                                    f"sheet3.csv, row 2, column vn_v: outside {least_and_most} V")
+        # 24900 V is a voltage between phases: only the word is wrong.
+        self.assert_refused([SOURCE_SHEET, BRANCH_SHEET, LOAD_SHEET.replace("A,P,7200", "AC,P,24900")],
+                            "sheet3.csv, row 2, column phase: 'AC' is none of A, B, C, AB, BC, CA")
+
     def test_names_that_do_not_fit(self):
         for name in ("SUBSTATION", "N 1", "N-1", "", "Ä"):
             with self.subTest(name):
@@ -223,10 +238,10 @@ class Refusals(ConvertCase):
                                     f"sheet3.csv, row 2, column p_kw: '{said}' is no number: digits with one decimal point, and no mark between thousands")
 
     def test_words_that_are_not_listed(self):
-        self.assert_refused([SOURCE_SHEET, BRANCH_SHEET.replace("A,L", "CB,line"), LOAD_SHEET.replace("A,P", "AB,PQ")],
+        self.assert_refused([SOURCE_SHEET, BRANCH_SHEET.replace("A,L", "CB,line"), LOAD_SHEET.replace("A,P", "BA,PQ")],
                             "sheet2.csv, row 2, column phases: 'CB' is none of A, B, C, AB, AC, BC, ABC",
                             "sheet2.csv, row 2, column kind: 'line' is none of L, R, Y, D",
-                            "sheet3.csv, row 2, column phase: 'AB' is none of A, B, C",
+                            "sheet3.csv, row 2, column phase: 'BA' is none of A, B, C, AB, BC, CA",
                             "sheet3.csv, row 2, column kind: 'PQ' is none of P, I, Z")
 
     def test_values_where_zero_is_due(self):

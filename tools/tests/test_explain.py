@@ -6,6 +6,7 @@ import unittest
 from flarecomb_tool import equations, explain, notes
 from flarecomb_tool.explain_layout import HABITS
 from flarecomb_tool.format import FEEDER_TABLES, LARGEST_FILE, read_feeder
+from tests.commands import SOURCE_ROW, feeder_text, line_row, worked_report
 from tests.mistakes_table import MISTAKES
 from tests.support import EXAMPLES, MISTAKES_FOLDER, PROGRAMS, feeder_bytes, needs_programs, report_bytes
 
@@ -147,6 +148,82 @@ class Advice(unittest.TestCase):
             lines[1] = ",".join(source).encode()
             written = self.study(b"\n".join(lines))
             self.assertEqual(match[1] or match[3], written.split("\n")[-2].split(",")[0], mistake.feeder)
+
+
+class BetweenPhases(unittest.TestCase):
+    """Loads whose phase is AB, BC or CA."""
+
+    LINE = line_row("S", "N1", "ABC", [300000, 600000, 0, 0, 0, 0, 300000, 600000, 0, 0, 300000, 600000])
+
+    def refused(self, number, value, load, source=SOURCE_ROW, branches=(LINE,)):
+        """The sentences on a feeder with this load row in line 8, or in the line behind it for one more branch."""
+        text = explain.study_refusal(feeder_text(source, branches, [load]).encode(), number, value)
+        self.assertNotIn(explain.RULES[number], text)
+        return text.split("\n")
+
+    def test_words_in_another_order(self):
+        for word, due in (("AC", "CA"), ("BA", "AB"), ("CB", "BC"), ("ac", "CA"), ("C/B", "BC")):
+            self.assertEqual(
+                f"A load between two phases is written AB, BC or CA. Write {due}: turned round it is the same load, with the same p and q.",
+                self.refused(10, 8, f"N1,{word},P,1247077,72000,0")[-1])
+
+    def test_words_with_marks_or_in_small_letters(self):
+        for word, due in (("ca", "CA"), ("A-B", "AB"), ("B/C", "BC"), ("C A", "CA"), ("a", "A"), ("A\t", "A")):
+            self.assertEqual(f"Write {due}.", self.refused(10, 8, f"N1,{word},P,1247077,72000,0")[-1])
+
+    def test_words_that_say_nothing(self):
+        for word in ("AA", "AD", "ABCA", "N"):
+            self.assertEqual(f"Column phase (the phase of the load, or the two that it stands between) has {word}: A, B, C, AB, BC or CA is due.",
+                             self.refused(10, 8, f"N1,{word},P,1247077,72000,0")[-1])
+
+    def test_rated_voltages(self):
+        for phase, vn, said in (("AB", 4000001, "Column vn (rated voltage between A and B) has 4000001, that is 40000.01 V: the limit is 1 to 4000000"),
+                                ("CA", 0, "Column vn (rated voltage between C and A) has 0, that is 0 V: the limit is 1 to 4000000"),
+                                ("B", 2000001, "Column vn (rated voltage to ground) has 2000001, that is 20000.01 V: the limit is 1 to 2000000")):
+            self.assertEqual(f"{said} in cV (0.01 V).", self.refused(11, 8, f"N1,{phase},Z,{vn},72000,0")[2])
+
+    def test_rated_voltage_with_a_decimal_point(self):
+        # Up to 40000 V both kV and V can be meant, to ground only up to 20000 V.
+        self.assertEqual("24.9 kV is 2490000; 24.9 V is 2490.", self.refused(10, 8, "N1,AB,Z,24.9,72000,0")[-1].split(" The source")[0])
+        self.assertEqual("24.9 V is 2490.", self.refused(10, 8, "N1,A,Z,24.9,72000,0")[-1])
+
+    def test_absent_phases(self):
+        branches = (self.LINE, line_row("N1", "N2", "AC", [300000, 600000, 0, 0, 0, 0, 0, 0, 0, 0, 300000, 600000]))
+        for phase, said in (("AB", "A and B"), ("BC", "B and C")):
+            self.assertEqual([f"The load is on phases {said}, but node N2 has phases A and C alone (fed by line 6 (N1,N2))."],
+                             self.refused(23, 9, f"N2,{phase},Z,1247077,72000,0", branches=branches)[2:])
+        # both are there
+        text = explain.study_refusal(feeder_text(SOURCE_ROW, branches, ["N2,CA,Z,1247077,72000,0"]).encode(), 23, 9)
+        self.assertIn(explain.RULES[23], text)
+
+    def test_equal_phases_above_a_delta_transformer(self):
+        # A of the source half-way between B and C makes A and B of the node equal.
+        said = self.refused(30, 1, "N1,AB,P,400000,72000,0", "S,0,0,300000,0,-300000,0,1,20", ["S,N1,ABC,D,3,1" + ",0" * 10])
+        self.assertEqual("Line 5 is a delta transformer: it gives the same voltage on A and B here.", said[2])
+
+    def test_the_largest_impedance_of_both_phases(self):
+        branch = line_row("S", "N1", "AB", [10000000, 0, 0, 0, 0, 0, 40000000, 0])
+        feeder = feeder_text(SOURCE_ROW, [branch], ["N1,AB,P,1247077,880000,0"]).encode()
+        trouble = equations.study(read_feeder(feeder)).trouble
+        self.assertEqual(31, trouble.number)
+        text = explain.study_refusal(feeder, 31, trouble.sweep)
+        self.assertIn("The largest impedance on its way is that of line 5 (S,N1): r 40 ohm and x 0 ohm on phase B.", text)
+
+    def test_source_in_volts_by_loads_between_phases(self):
+        said = self.refused(31, 1, "N1,CA,P,1247077,900000,0", "S,720,0,-360,-623,-360,623,1,20")
+        self.assertIn("by vn of the loads it has about 7200.00 V, that is 720000: each of its six values is then 1000 times as large.", said[-1])
+
+    def test_reports(self):
+        """30, 31 and 53 of the check at voltages that were edited."""
+        feeder = feeder_text(SOURCE_ROW, [self.LINE], ["N1,AB,P,1247077,72000,0"])
+        report = worked_report(feeder).split("\n")
+        for voltages, number, value, said in (
+            ("5,7,5,7,0,0", 30, 0, "The report has the same voltage on A and B of node N1."),
+            ("5,7,5,8,0,0", 31, 0, "Its voltage is 0.01 V between A and B."),
+            ("700000,0,-360000,-623538,-360000,623538", 53, 6, "Column ia_re (real part of the current of A) has "),
+        ):
+            edited = "\n".join([*report[:2], f"N1,{voltages}", *report[3:]])
+            self.assertIn(said, explain.check_refusal(feeder.encode(), edited.encode(), number, value))
 
 
 class Size(unittest.TestCase):

@@ -28,6 +28,17 @@ class Columns(unittest.TestCase):
         # a field that can only be 0 has no limit
         self.assertFalse(files.outside_limit(files.PARAMETERS["R"][3], 10**17))
 
+    def test_rated_voltage_by_the_phase(self):
+        for word, most in (("A", 2000000), ("B", 2000000), ("C", 2000000), ("AB", 4000000), ("BC", 4000000), ("CA", 4000000)):
+            column = files.columns_of(files.LOADS, ["N1", word, "P"])[3]
+            self.assertEqual([True, False, False, True], [files.outside_limit(column, vn) for vn in (0, 1, most, most + 1)], word)
+
+    def test_what_each_phase_word_stands_between(self):
+        for word in files.LOAD_SIGNS:
+            signs = dict(zip(files.PHASES, files.LOAD_SIGNS[word]))
+            self.assertEqual({word[0]: 1, **{phase: -1 for phase in word[1:]}}, {phase: sign for phase, sign in signs.items() if sign})
+            self.assertEqual((sorted(word), len(word) == 2), (files.load_phases(word), files.is_between(word)))
+
 
 class Fields(unittest.TestCase):
     def test_numbers(self):
@@ -42,6 +53,13 @@ class Fields(unittest.TestCase):
         self.assertEqual("A1B2C3D4", files.read_field(column, b"A1B2C3D4"))
         for field in (b"", b"A1B2C3D4E", b"a", b"A_", b"A ", "\u00c4".encode(), b"A\n"):
             self.assertIsNone(files.read_field(column, field), field)
+
+
+    def test_phases_of_loads_and_branches(self):
+        words = ("", "A", "B", "C", "AA", "AB", "AC", "BA", "BC", "CA", "CB", "ABC", "ab", "A-B")
+        for table, place, taken in ((files.LOADS, 1, ["A", "B", "C", "AB", "BC", "CA"]),
+                                    (files.BRANCHES, 2, ["A", "B", "C", "AB", "AC", "BC", "ABC"])):
+            self.assertEqual(sorted(taken), sorted(word for word in words if files.read_field(table.columns[place], word.encode())))
 
 
 class Files(unittest.TestCase):

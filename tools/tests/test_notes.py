@@ -75,6 +75,16 @@ class Notes(unittest.TestCase):
         # a line of 0 ohm joins two nodes
         self.assert_none(branches=(large, line_row("N1", "N2", "A", [0, 0])))
 
+    def test_rated_voltage_of_a_load_between_two_phases(self):
+        """vn is compared with the difference, 12470.76 V without load."""
+        for vn in (1247077, 1000000, 1558000):
+            self.assert_none(loads=(f"N1,AB,Z,{vn},72000,0",))
+        for vn in (720000, 990000, 1560000, 12470):
+            self.assert_lines([8], "between C and A; vn is in cV and from phase to phase", loads=(f"N1,CA,I,{vn},1000,0",))
+        self.assert_lines([8], "between B and C (vn is not used in a P row); vn is in cV and from phase to phase", loads=("N1,BC,P,720000,72000,0",))
+        # a load to ground with a voltage between phases is still told
+        self.assert_lines([8], "on B; vn is in cV and to ground", loads=("N1,B,Z,1247077,72000,0",))
+
     def test_many_of_a_kind(self):
         found = noted(loads=[f"N1,A,P,7200,{watts},0" for watts in range(1000, 1020)])
         self.assertEqual([note.line for note in found], [8, 9, 10, 11, 12, 13, None])

@@ -112,6 +112,47 @@ class PowerAccount(unittest.TestCase):
         # The load: 2·1·10042 + 238996 + 1. The transformer: 1, |V| of three phases, 2·tol three times, 2·10042.
         self.assertEqual(account.allowance, 259081 + 1 + 720000 + 2 * 983538 + 6 + 20084)
 
+    def between_phases(self, kind, tol=1):
+        # 12000 V between A and B. Of 12 kW at 24000 V a P load takes all, an I load a half and a Z load a quarter.
+        feeder = commands.feeder_text(commands.OPPOSITE_ROW.replace(",1,20", f",{tol},20"), [], [f"S,AB,{kind},2400000,12000,0"])
+        milliamperes = {"P": 1000, "I": 500, "Z": 250}[kind]
+        drawn = 1200000 * milliamperes
+        report = commands.report_text([commands.OPPOSITE_ROW.rsplit(",", 2)[0]], [], f"1,{drawn},0,{drawn},0,0,0")
+        return feeder, report
+
+    def test_a_load_between_two_phases_by_hand(self):
+        for kind, milliamperes in (("P", 1000), ("I", 500), ("Z", 250)):
+            for tol in (0, 1, 1000):
+                with self.subTest(kind, tol=tol):
+                    account = join(*self.between_phases(kind, tol)).account()
+                    self.assertEqual(account.ratings, (1200000 * milliamperes, 0))
+                    self.assertEqual(account.difference, (0, 0))
+                    # 4·tol·|I| + |V| + 1, with V the difference
+                    self.assertEqual(account.allowance, 4 * tol * milliamperes + 1200000 + 1)
+
+    def test_the_allowance_takes_both_parts_of_the_difference(self):
+        # V_b - V_c is (100, -900), of which |V| is 1000; 1 W takes rnd(100000·(100, -900)/820000) = (12, -110).
+        feeder = commands.feeder_text("S,0,0,300,-400,200,500,3,20", [], ["S,BC,P,1,1,0"])
+        account = join(feeder, commands.worked_report(feeder)).account()
+        self.assertEqual(account.allowance, 4 * 3 * (12 + 110) + 1000 + 1)
+
+    def test_chance_feeders_are_within_their_allowance(self):
+        chance = random.Random(5)
+        between = 0
+        for _ in range(60):
+            feeder = chance_feeder(chance)
+            read = format.read_feeder(feeder.encode())
+            if equations.study(read).trouble is None:
+                self.assertTrue(join(feeder, commands.worked_report(feeder)).account().within, feeder)
+                between += sum(format.is_between(load.phase) for load in read.loads)
+        self.assertGreater(between, 40)
+
+    @needs_programs
+    def test_loads_between_two_phases_by_hand_are_what_the_study_writes(self):
+        for kind in "PIZ":
+            feeder, report = self.between_phases(kind)
+            self.assertEqual(commands.study(feeder), report)
+
     @needs_programs
     def test_transformer_by_hand_is_what_the_study_writes(self):
         feeder, report = self.transformer()
@@ -193,6 +234,13 @@ class Figures(ShowCase):
         nodes = csv_tables(self.example("example", "--csv")[1])[1]
         self.assertEqual([nodes[1][f"V_{phase}_V"] for phase in "ABC"], ["7190.00", "", ""])
 
+    def test_a_load_between_two_phases_has_the_voltage_between_them(self):
+        feeder = commands.feeder_text(commands.OPPOSITE_ROW, [], ["S,AB,P,1200000,12000,6000", "S,A,P,600000,12000,0"])
+        paths = self.write(feeder, commands.worked_report(feeder))
+        loads = csv_tables(commands.run(show, *paths, *NO_PROGRAM, "--csv")[1])[4]
+        self.assertEqual([(row["phase"], row["vn_V"], row["V_V"], row["I_A"], row["drawn_p_kW"], row["drawn_q_kvar"]) for row in loads],
+                         [("AB", "12000.00", "12000.00", "1.118", "12.000", "6.000"), ("A", "6000.00", "6000.00", "2.000", "12.000", "0.000")])
+
     def test_no_branches_and_no_loads(self):
         paths = self.write(commands.feeder_text(commands.SOURCE_ROW), commands.report_text([commands.SOURCE_ROW.rsplit(",", 2)[0]], [], "1,0,0,0,0,0,0"))
         status, text, _ = commands.run(show, *paths, *NO_PROGRAM)
@@ -270,8 +318,9 @@ def chance_feeder(chance):
         branches.append(f"{above},{name},{own},{kind}," + ",".join(map(str, values + [0] * (12 - len(values)))))
     for _ in range(chance.randint(1, 20)):
         node = chance.choice(sorted(phases))
-        loads.append(f"{node},{chance.choice(phases[node])},{chance.choice('PIZ')},{rated[node]},{chance.randint(-5000, 90000)},"
-                     f"{chance.randint(-20000, 40000)}")
+        phase = chance.choice([word for word in format.LOAD_SIGNS if set(word) <= set(phases[node])])
+        vn = round(rated[node] * 3 ** 0.5) if format.is_between(phase) else rated[node]
+        loads.append(f"{node},{phase},{chance.choice('PIZ')},{vn},{chance.randint(-5000, 90000)},{chance.randint(-20000, 40000)}")
     return commands.feeder_text(f"{commands.SOURCE_ROW[:-4]}{chance.choice((0, 1, 5))},40", branches, loads)
 
 
@@ -294,6 +343,11 @@ class Faults(ShowCase):
                 (feeder.replace("S,N1", "S2,N1"), report, "a.feeder, line 5:", "neither the source"),
                 (feeder.replace("S,N1", "S,S"), report, "a.feeder, line 5:", "no branch feeds the source"),
                 (feeder.replace("N1,A,P", "N1,B,P"), report, "a.feeder, line 8:", "phase B"),
+                (feeder.replace("N1,A,P", "N1,AB,P"), report, "a.feeder, line 8:", "phases A and B"),
+                (feeder.replace("N1,A,P", "N1,CA,P"), report, "a.feeder, line 8:", "phases A and C"),
+                (feeder.replace("N1,A,P", "N1,AC,P"), report, "a.feeder, line 8:", "Write CA"),
+                (feeder.replace("N1,A,P,720000", "S,AB,P,4000001"), report, "a.feeder, line 8:", "4000000"),
+                (feeder.replace("N1,A,P,720000", "N1,A,P,2000001"), report, "a.feeder, line 8:", "2000000"),
                 (feeder.replace("N1,A,P", "N9,A,P"), report, "a.feeder, line 8:", "N9"),
                 (feeder, (EXAMPLES / "four_node.report").read_text(), "a.report", "4"),
                 (report, feeder, "a.feeder, line 1:", "exchanged"),

@@ -128,6 +128,17 @@ class Page(ViewCase):
         for figure in ("7190.00", "10.014", "72.101", "103960", "749044", "51980", "0.9986"):
             self.assertIn(figure, texts)
 
+    def test_a_load_between_two_phases_has_the_voltage_between_them(self):
+        feeder = commands.feeder_text(commands.OPPOSITE_ROW, [], ["S,AB,I,1500000,15000,0"])
+        paths = self.folder / "a.feeder", self.folder / "a.report"
+        for path, text in zip(paths, (feeder, commands.worked_report(feeder))):
+            path.write_text(text)
+        texts = Outline(self.page(*paths).decode()).texts
+        # 12000 V of 15000 V: 4/5 of 15 kW, and 1 A. The allowance is 4·1·1000 + 1200000 + 1.
+        row = texts[texts.index("AB"):]
+        self.assertEqual(row[:10], ["AB", "I", "15000.00", "15.000", "0.000", "12000.00", "1.000", "0.00", "12.000", "0.000"])
+        self.assertIn("1204001", texts)
+
     def test_texts_are_escaped(self):
         shown = tables.read(argparse.Namespace(feeder=EXAMPLES / "example.feeder", report=EXAMPLES / "example.report", programs="no-such-folder"))
         hostile = "<script>alert('1')</script> & \"2\""
