@@ -32,7 +32,7 @@ extern "C" {
 #endif
 
 /* the version of this header and of the library beside it: that of the file VERSION; CHANGELOG.md says what each version brings */
-#define FLARECOMB_VERSION "0.2.0"
+#define FLARECOMB_VERSION "0.3.0"
 
 /* the three parts of an answer: bits 0 to 31, 32 to 47, and 48 to 63 */
 #define FLARECOMB_VALUE(answer) ((uint32_t)((uint64_t)(answer) & 0xffffffffu))
