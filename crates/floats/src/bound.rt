@@ -27,6 +27,7 @@ use crate::phasor::phasors_of;
 use crate::phasor::real;
 use crate::phasor::root;
 use crate::solver::load_count;
+use crate::solver::on_phases;
 use crate::solver::place;
 use crate::solver::sweep;
 use crate::solver::voltage_across;
@@ -79,51 +80,17 @@ fn bound_across(terminals: Terminals, bounds: Phasors, moved: f64) -> f64 {
     }
 }
 
-// The bound on a load's current on each phase that it stands on, the second as the first.
-fn bound_on_phases(terminals: Terminals, bound: f64) -> Phasors {
-    let zero = Phasor { re: 0.0, im: 0.0 };
-    let e = Phasor { re: bound, im: 0.0 };
-    match terminals {
-        Terminals::OnA => Phasors {
-            a: e,
-            b: zero,
-            c: zero,
-        },
-        Terminals::OnB => Phasors {
-            a: zero,
-            b: e,
-            c: zero,
-        },
-        Terminals::OnC => Phasors {
-            a: zero,
-            b: zero,
-            c: e,
-        },
-        Terminals::AB => Phasors {
-            a: e,
-            b: e,
-            c: zero,
-        },
-        Terminals::BC => Phasors {
-            a: zero,
-            b: e,
-            c: e,
-        },
-        Terminals::CA => Phasors {
-            a: e,
-            b: zero,
-            c: e,
-        },
-    }
-}
-
-// How far a load's current is off on each phase, from the voltages of its node and the bounds on them.
+// How far a load's current is off on each phase, on the second as on the first, from the voltages of its node and the bounds on them.
 fn load_bounds(l: Load, solved: Phasors, reported: Three, bounds: Phasors, moved: f64) -> Phasors {
     let terminals = l.phase;
     let v = voltage_across(terminals, solved);
     let w = voltage_across(terminals, phasors_of(reported));
     let e = bound_across(terminals, bounds, moved);
-    bound_on_phases(terminals, load_bound(l, v, w, e))
+    let bound = Phasor {
+        re: load_bound(l, v, w, e),
+        im: 0.0,
+    };
+    on_phases(terminals, bound, bound)
 }
 
 // The sum over the loads at each node.

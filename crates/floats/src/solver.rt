@@ -57,40 +57,39 @@ pub fn voltage_across(terminals: Terminals, v: Phasors) -> Phasor {
     }
 }
 
-// A load's current on each phase of its node: it counts into its first phase and, with the sign changed, into its second where it has one.
-fn into_phases(terminals: Terminals, i: Phasor) -> Phasors {
+// What a load has on its first phase and on its second, where it has one, for each phase of its node.
+pub fn on_phases(terminals: Terminals, first: Phasor, second: Phasor) -> Phasors {
     let zero = Phasor { re: 0.0, im: 0.0 };
-    let opposite = sub(zero, i);
     match terminals {
         Terminals::OnA => Phasors {
-            a: i,
+            a: first,
             b: zero,
             c: zero,
         },
         Terminals::OnB => Phasors {
             a: zero,
-            b: i,
+            b: first,
             c: zero,
         },
         Terminals::OnC => Phasors {
             a: zero,
             b: zero,
-            c: i,
+            c: first,
         },
         Terminals::AB => Phasors {
-            a: i,
-            b: opposite,
+            a: first,
+            b: second,
             c: zero,
         },
         Terminals::BC => Phasors {
             a: zero,
-            b: i,
-            c: opposite,
+            b: first,
+            c: second,
         },
         Terminals::CA => Phasors {
-            a: opposite,
+            a: second,
             b: zero,
-            c: i,
+            c: first,
         },
     }
 }
@@ -104,7 +103,8 @@ fn divisor(kind: LoadKind, vn: f64, v: Phasor) -> f64 {
     }
 }
 
-// The current of a load row on each phase, from the voltages of its node. A VA is 100,000 times 1 cV times 1 mA.
+// The current of a load row on each phase, from the voltages of its node: it counts into its first phase and, with the sign changed, into its second where it has
+// one. A VA is 100,000 times 1 cV times 1 mA.
 fn load_currents(l: Load, voltages: Phasors) -> Phasors {
     let terminals = l.phase;
     let kind = l.kind;
@@ -112,7 +112,8 @@ fn load_currents(l: Load, voltages: Phasors) -> Phasors {
     let v = voltage_across(terminals, voltages);
     let n = mul(conj(s), v);
     let i = scale(100000.0 / divisor(kind, real(l.vn), v), n);
-    into_phases(terminals, i)
+    let opposite = sub(Phasor { re: 0.0, im: 0.0 }, i);
+    on_phases(terminals, i, opposite)
 }
 
 // What the loads draw at each node.
