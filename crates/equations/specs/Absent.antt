@@ -5,12 +5,13 @@ use mathlib.Core.Path.{_∙_, _≡_, ap₂, refl}
 use Prim.Native.Nat.{_+_, _<_, _≤_, suc, zero, ℕ}
 use native.Mathlib.Omega.{arith}
 use lib.Dec.{eqb}
-use lib.IntN.{natAbs, negsuc, pos, zero-*ℤ, ℤ}
+use lib.IntN.{natAbs, negsuc, pos, ℤ}
 use lib.ListN.{getD}
 use borrow.Author.Tests.{eqb-true, leb-true, not-false}
 use Rattle.answers.specs.Answers.{good}
 use Rattle.equations.specs.Equations.{at, loadCurrent, nearCurrent, signAt, zero3}
 use Rattle.equations.specs.Meets.{at-taken, takenAt}
+use Rattle.equations.specs.Sizes.{none-of}
 use Rattle.equations.specs.ThreeLaws.{at-masked, csum-none}
 use Rattle.feeder.specs.Feeder.{Feeder, branchAt, has, parent, phaseSigns, phasesOf, reading, rowCount, rowsOf, standsOn}
 use Rattle.feeder.specs.FeederLaws.{sound}
@@ -22,13 +23,9 @@ use Rattle.feeder.specs.declared.Terminals.{Terminals}
 use Rattle.feeder.specs.declared.Three.{Three}
 use Rattle.integers.specs.Bools.{clash}
 use Rattle.integers.specs.ListLaws.{all-count, all-map}
-use Rattle.integers.specs.PairLaws.{+c-idr, pair-eq}
+use Rattle.integers.specs.PairLaws.{+c-idr}
 use Rattle.integers.specs.Pairs.{0c, _+c_, inside, scaled}
 use Rattle.integers.specs.declared.Pair.{Pair}
-
-scaled-none : (x : Pair) → scaled (pos 0) x ≡ 0c
-unfolding scaled
-scaled-none x = pair-eq (zero-*ℤ (x .re)) (zero-*ℤ (x .im))
 
 -- a load takes nothing from a phase that its node has not: it stands on the phases whose sign is not 0, and these its node has
 sign-none : (z : ℤ) (x : Pair) → not (inside 0 z) ≡ false → scaled z x ≡ 0c
@@ -36,7 +33,7 @@ unfolding inside
 sign-none z x n = go z (leb-true _ _ (not-false _ n))
   where
     go : (z : ℤ) → natAbs z ≤ 0 → scaled z x ≡ 0c
-    go (pos zero) h = scaled-none x
+    go (pos zero) h = none-of x
     go (pos (suc k)) h = absurd (omega arith)
     go (negsuc k) h = absurd (omega arith)
 

@@ -151,7 +151,7 @@ one-of : (x : Pair) → scaled (pos 1) x ≡ x
 unfolding scaled
 one-of x = pair-eq (one-times (x .re)) (one-times (x .im))
 
-none-of : (x : Pair) → scaled (pos 0) x ≡ 0c
+pub none-of : (x : Pair) → scaled (pos 0) x ≡ 0c
 unfolding scaled
 none-of x = pair-eq (zero-*ℤ (x .re)) (zero-*ℤ (x .im))
 
