@@ -10,7 +10,8 @@ pub mod Ring
 pub mod RoundingLaws
 pub mod Near
 pub mod RootLaws
-pub mod Newton
+pub mod DigitsLaws
+pub mod RootSteps
 pub mod PairLaws
 pub mod ListLaws
 pub mod Machine

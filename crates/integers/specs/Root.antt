@@ -1,4 +1,5 @@
--- The whole root (01, 'Units and rounding'). `root-law` of RootLaws says that it is the one that 01 means. Assumes nothing.
+-- The whole root (01, 'Units and rounding'), and how many binary digits a number has (02, S-2). `root-law` of RootLaws and `digits-law` of DigitsLaws say that they are
+-- the ones that are meant. Assumes nothing.
 use mathlib.Core.Bool.{true, false, cond}
 use Prim.Native.Nat.{ℕ, zero, suc, _+_, _*_, _/_}
 use lib.Dec.{leb, eqb}
@@ -11,3 +12,11 @@ rootBy (suc k) n =
 
 unfoldable pub root : ℕ → ℕ
 root n = rootBy n n
+
+-- "one step for each of its own binary digits (none for 0)": m has one binary digit more than m / 2 has. k bounds the steps
+unfoldable pub digitsBy : ℕ → ℕ → ℕ
+digitsBy zero m = 0
+digitsBy (suc k) m = elim (eqb m 0) [ true ↦ 0 | false ↦ let d = digitsBy k (m / 2) in suc d ]
+
+unfoldable pub binaryDigits : ℕ → ℕ
+binaryDigits m = digitsBy m m

@@ -6,8 +6,8 @@ ghost use lib.Signed.{_<ℤ_};
 ghost use mir.Syntax.{w64};
 ghost use mir.Val.{SFits};
 ghost use Rattle.integers.specs.Rounding.{rnd};
-ghost use Rattle.integers.specs.Newton.{Guess, Half};
-ghost use Rattle.integers.specs.Root.{root};
+ghost use Rattle.integers.specs.Root.{root, binaryDigits};
+ghost use Rattle.integers.specs.RootSteps.{placeSquared};
 ghost use Rattle.integers.specs.Pairs.{inside};
 
 // Sums, differences and products whose sizes leave room. `fits` says nothing new: the proofs of callers read it.
@@ -114,36 +114,55 @@ pub fn rnd_to(a: i64, d: u64) -> i64
     rnd_div(a, b)
 }
 
-// The mean of 2 ^ s and n / 2 ^ s, which is at least the root of n.
-fn mean_guess(n: u64, s: u32) -> u64
-    requires { ⌜ Half n s ⌝ }
-    ensures { λ r. ⌜ Guess n r ⌝ }
+// How many binary digits the root of n has: half as many as n has, or the next number up. The count of leading zeros tells it.
+fn root_digits(n: u64) -> u32
+    ensures digits { λ r. ⌜ r ≡ binaryDigits (root n) ⌝ }
+    ensures few { λ r. ⌜ r ≤ 32 ⌝ }
 {
-    let power = 1u64 << s;
-    (power + n / power) / 2
+    32 - u64::leading_zeros(n) / 2
 }
 
-// A first guess at the root, off by at most a sixteenth of it: 2 ^ s with half of the length of n in bits for s, which the count of its leading zeros
-// tells, is off by at most a factor of root 2, and the mean is nearer.
-fn first_guess(n: u64) -> u64
-    requires { ⌜ n ≤ 2 ^ 62 ⌝ }
-    ensures { λ r. ⌜ Guess n r ⌝ }
+// The square of the place of the first of k binary digits, 0 for no digits.
+fn first_place(k: u32) -> u64
+    requires { ⌜ k ≤ 32 ⌝ }
+    ensures { λ r. ⌜ r ≡ placeSquared k ⌝ }
 {
-    let half = (64 - u64::leading_zeros(n)) / 2;
-    if half < 31 {
-        return mean_guess(n, half);
+    if k == 0 {
+        return 0;
     }
-    mean_guess(n, 31)
+    1u64 << (2 * k - 2)
 }
 
-// The greatest m with m * m <= n, by Newton's iteration: while the square of a guess is above n, the next guess is smaller and still at least the root.
-pub fn root(n: u64) -> u64
-    requires { ⌜ n ≤ 2 ^ 62 ⌝ }
-    ensures { λ r. ⌜ r ≡ root n ⌝ }
+// A whole root, and how many steps were taken to it.
+pub struct Rooted {
+    pub root: u64,
+    pub steps: u32,
+}
+
+// The greatest m with m * m <= n, one binary digit in each step, the highest first. With M for the digits that are found, in their places, and P for
+// the place of the next one, `place` is P * P, `left` is n - M * M, and `trial` is what a digit 1 takes from it, (M + P) * (M + P) - M * M = 2 * M * P + P * P.
+// For the next place P / 2 the trial is M * P + P * P / 4, and P * P more where M has become M + P. Behind the last digit it is M.
+// `low` stands before the test, so that both arms only choose: a processor would guess the digits of a root wrong every second time.
+pub fn root(n: u64) -> Rooted
+    ensures root { λ r. ⌜ r .root ≡ root n ⌝ }
+    ensures steps { λ r. ⌜ r .steps ≡ binaryDigits (root n) ⌝ }
 {
-    let mut m = first_guess(n);
-    while n < m * m {
-        m = (m + n / m) / 2;
+    let digits = root_digits(n);
+    let mut place = first_place(digits);
+    let mut trial = place;
+    let mut left = n;
+    let mut steps = 0u32;
+    while steps < digits {
+        let next = place >> 2;
+        let low = (trial >> 1) - next;
+        if trial <= left {
+            left -= trial;
+            trial = low + place;
+        } else {
+            trial = low;
+        }
+        place = next;
+        steps += 1;
     }
-    m
+    Rooted { root: trial, steps }
 }

@@ -56,7 +56,7 @@ fn weigh(kind: LoadKind, vn: i64, u: Pair) -> u64
         LoadKind::Power => pairs::square(u),
         LoadKind::Current => {
             let n = pairs::square(u);
-            let m = whole::root(n);
+            let m = whole::root(n).root;
             let k = whole::size(vn);
             m * k
         }

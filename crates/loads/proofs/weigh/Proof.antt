@@ -6,7 +6,7 @@ use native.Mathlib.Omega.{arith}
 use lib.IntN.{natAbs}
 use borrow.Author.Needs.{needs}
 use Rattle.equations.specs.Equations.{weight}
-use Rattle.equations.specs.Limits.{root-most, square-most}
+use Rattle.equations.specs.Limits.{root-most}
 use Rattle.feeder.specs.declared.LoadKind.{LoadKind}
 use Rattle.integers.specs.Machine.{abs-read}
 use Rattle.integers.specs.Pairs.{square}
@@ -17,8 +17,8 @@ use Rattle.loads.proofs.weigh.Tie as tie
 arm : (s : tie.Start) {k : LoadKind} → s .args .kind ≡ k → weight k (s .args .vn) (s .args .u) ≡ weight (s .args .kind) (s .args .vn) (s .args .u)
 arm s e = sym (ap (λ (k : LoadKind). weight k (s .args .vn) (s .args .u)) e)
 
-rooted : (c : tie.After-root) → c .root .result ≡ root (square (c .before .before .before .before .args .u))
-rooted c = c .root .ensures ∙ ap root (c .before .square2 .ensures)
+rooted : (c : tie.After-root) → c .root .result .root ≡ root (square (c .before .before .before .before .args .u))
+rooted c = c .root .ensures .0 ∙ ap root (c .before .square2 .ensures)
 
 sized : (c : tie.After-size) → c .size .result ≡ natAbs (c .before .before .before .before .before .args .vn)
 sized c = c .size .ensures ∙ abs-read (c .before .before .before .before .before .fits .vn)
@@ -36,7 +36,7 @@ square-requires-2 : tie.Need-square-requires-2
 square-requires-2 c κs = search needs
 
 root-requires : tie.Need-root-requires
-root-requires c κs = omega (arith, c .square2 .ensures, square-most (c .before .before .before .pre .1))
+root-requires c κs = search needs
 
 size-requires : tie.Need-size-requires
 size-requires c κs = search needs

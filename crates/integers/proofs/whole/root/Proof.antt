@@ -1,58 +1,65 @@
--- `whole::root` meets its contract. The invariant: the guess is at least the root. The measure is the guess, since a step from one whose square is above n makes it
--- smaller. Assumes nothing.
-use mathlib.Core.Path.{sym}
-use Prim.Native.Nat.{_≤_}
-use native.Mathlib.Nat.{div-le-self, mul-le-mul}
+-- `whole::root` meets its contract. The invariant: the digits that are found, and that as many are to come as steps. Assumes nothing.
+use mathlib.Core.Path.{_≡_, subst}
+use mathlib.Core.Logic.{⊎-elim}
+use Prim.Native.Nat.{ℕ, suc, _+_, _-_, _≤_}
+use native.Mathlib.Nat.{sub-zero}
 use native.Mathlib.Omega.{arith}
 use borrow.Author.Needs.{needs}
-use Rattle.integers.specs.Newton.{Guess, newton-below, next-guess, square-pos}
-use Rattle.integers.specs.RootLaws.{root-is}
+use Rattle.integers.specs.RootSteps.{Rooting, next-room, rooting-end, rooting-one, rooting-start, rooting-zero}
 use Rattle.integers.proofs.whole.root.Statement.{statement}
 use Rattle.integers.proofs.whole.root.Tie as tie
 
 abbrev Inv-loop : tie.InvT-loop
-Inv-loop n m₀ m = Guess n m
+Inv-loop n digits place₀ trial₀ left₀ steps₀ place trial left steps = (steps ≤ digits) × Rooting n (digits - steps) place trial left
 
 abbrev μ-loop : tie.MeasureT-loop
-μ-loop n m₀ m = m
+μ-loop n digits place₀ trial₀ left₀ steps₀ place trial left steps = digits - steps
 
-first-guess-requires : tie.Need-first-guess-requires Inv-loop μ-loop
-first-guess-requires c κs = search needs
+root-digits-requires : tie.Need-root-digits-requires Inv-loop μ-loop
+root-digits-requires c κs = search needs
+
+first-place-requires : tie.Need-first-place-requires Inv-loop μ-loop
+first-place-requires c κs = c .root-digits .ensures .1
 
 loop-holds : tie.Need-loop-holds Inv-loop μ-loop
-loop-holds c = c .first-guess .ensures
+loop-holds c =
+    let d = c .before .root-digits .ensures in
+    (omega arith, rw (sub-zero (c .before .root-digits .result)) (rooting-start _ _ _ (d .0) (d .1) (c .first-place .ensures)))
 
-mul-loop : tie.Need-mul-loop Inv-loop μ-loop
-mul-loop c = let h : c .loop .m ≤ 0xffff_ffff = omega (arith, c .loop .inv .small) in record { fits = omega (arith, mul-le-mul h h) }
+-- in the loop one more is to come
+going : (c : tie.In-loop Inv-loop μ-loop) → let l = c .before .loop in let a = c .before .before in
+    Rooting (a .before .before .args .n) (suc (a .before .root-digits .result - (l .steps + 1))) (l .place) (l .trial) (l .left)
+going c =
+    let l = c .before .loop in
+    let a = c .before .before in
+    let e : a .before .root-digits .result - l .steps ≡ suc (a .before .root-digits .result - (l .steps + 1)) = omega (arith, c .loop-test .taken) in
+    subst (λ (k : ℕ). Rooting (a .before .before .args .n) k (l .place) (l .trial) (l .left)) e (l .inv .1)
 
-div-m : tie.Need-div-m Inv-loop μ-loop
-div-m c = square-pos (c .before .before .before .args .n) (c .before .loop .m) (c .loop-test .taken)
+sub-low : tie.Need-sub-low Inv-loop μ-loop
+sub-low c = next-room (going c) .0
 
-add-m : tie.Need-add-m Inv-loop μ-loop
-add-m c =
-    let s = c .before .before .before in
-    record { fits = omega (arith, c .before .loop .inv .small, div-le-self (s .args .n) (c .before .loop .m), s .pre) }
+add-trial : tie.Need-add-trial Inv-loop μ-loop
+add-trial c = record { fits = next-room (going (c .before)) .1 }
+
+add-steps : tie.Need-add-steps Inv-loop μ-loop
+add-steps c = record { fits = omega (arith, c .before .loop-test .taken, c .before .before .before .before .root-digits .ensures .1) }
 
 loop-less : tie.Need-loop-less Inv-loop μ-loop
-loop-less c = newton-below (c .before .before .before .args .n) (c .before .loop .m) (c .loop-test .taken)
+loop-less c = omega (arith, c .before .loop-test .taken)
 
 loop-again : tie.Need-loop-again Inv-loop μ-loop
-loop-again c = next-guess (c .before .before .before .args .n) (c .before .loop .m) (c .before .loop .inv) (c .loop-test .taken)
+loop-again c =
+    let g = going (c .before) in (
+      omega (arith, c .before .loop-test .taken),
+      ⊎-elim (λ w. rw (w .1, w .2) (rooting-one g (omega (arith, w .0 .taken)))) (λ w. rw (w .1, w .2) (rooting-zero g (omega (arith, w .0 .left)))) (c .if1 .came),
+    )
 
 returns : tie.Need-returns Inv-loop μ-loop
-returns c = sym (root-is (record { low = c .loop-test .left; high = c .before .loop .inv .enough }))
+returns c =
+    let l = c .before .loop in
+    let d = c .before .before .before .root-digits in
+    let e : d .result - l .steps ≡ 0 = omega arith in
+    (rooting-end (subst (λ (k : ℕ). Rooting (c .before .before .before .before .args .n) k (l .place) (l .trial) (l .left)) e (l .inv .1)), omega (arith, l .inv .0, d .ensures .0))
 
 pub root-spec : {M : Type 1} → statement M
-root-spec =
-    tie.close
-    (tie.spec
-    Inv-loop
-    μ-loop
-    first-guess-requires
-    loop-holds
-    mul-loop
-    div-m
-    add-m
-    loop-less
-    loop-again
-    returns)
+root-spec = tie.close (tie.spec Inv-loop μ-loop root-digits-requires first-place-requires loop-holds sub-low add-trial add-steps loop-less loop-again returns)
