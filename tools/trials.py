@@ -8,10 +8,11 @@
                   of each file of cases every tenth case whose files are under 3,000 bytes together, spread over the kinds of answer
   Accounts        the power account's numbers for every tenth passing case of each file, worked out here a second time from documents 01 and 02;
                   where the file has the account's numbers, they must be the same for every case
+  Roots           every case of the whole root and its binary digits, in one table
 
 Run it in the repository's root: python3 tools/trials.py CASES..., then rt fmt and rt check trials. Each of CASES, the base's first and then each
 request's in turn, is a file with one case to a line: name, call, feeder and report (files, looked for in its folder and then in the folder
-above), buffer (null: a large one), and the expected answer with one value.
+above), buffer (null: a large one), and the expected answer with one value; for a root its number, and the root and its steps.
 """
 import json, math, os, re, sys
 
@@ -37,6 +38,8 @@ def cases(path):
 
     for line in open(path):
         case = json.loads(line)
+        if case['call'] == 'root':
+            continue
         expected = case['expected']
         case['f'], case['r'] = read(case['feeder']), read(case['report']) if case.get('report') else b''
         case['written'] = read(expected['file']) if expected['answer'] == 'report' else b''
@@ -194,6 +197,33 @@ def account_theorem(name, case):
     return proved(name, case, f"accountOf {text(case['f'])} {text(case['r'])} ≡ good ({numbers})")
 
 
+# ---- the whole root
+def roots(paths):
+    found = [case for path in paths for case in map(json.loads, open(path)) if case['call'] == 'root']
+    rows = '\n    ∷ '.join(f"({case['n']}, {case['expected']['root']}, {case['expected']['steps']})" for case in found)
+    open(SPECS + 'Roots.antt', 'w').write(f'''-- Vectors: whole roots, and the number of their binary digits. Assumes nothing.
+use mathlib.Core.Bool.{{true, _&&_}}
+use mathlib.Core.List.{{List, [], _∷_}}
+use mathlib.Core.Path.{{_≡_, refl}}
+use Prim.Native.Nat.{{ℕ}}
+use lib.Dec.{{eqb}}
+use Rattle.integers.specs.Lists.{{all}}
+use Rattle.integers.specs.Root.{{root, binaryDigits}}
+use Rattle.trials.specs.Opened.{{opened}}
+
+-- each with its root and that root's number of binary digits
+abbrev table : List (ℕ × ℕ × ℕ)
+table =
+    {rows}
+    ∷ []
+
+pub all-right : all (λ row. eqb (root (row .0)) (row .1) && eqb (binaryDigits (root (row .0))) (row .2)) table ≡ true
+unfolding opened
+all-right = refl
+''')
+    print(f'Roots: {len(found)}')
+
+
 # ---- the modules
 # Of each refusal the smallest of these cases. Where the check has none, a feeder that is refused before any report is read, with an empty report.
 def one_of_each(ordered):
@@ -234,6 +264,7 @@ def main():
     accounts = []
     for number, ordered in enumerate(files):
         accounts += [account_theorem(named('a', number, c), c) for c in [c for c in ordered if c['kind'][1] == 'pass'][::STEP]]
+    roots(sys.argv[1:])
     module('Accounts', 'Power accounts of reports that pass: the difference, real and reactive, and the allowance.', accounts)
 
 

@@ -85,9 +85,14 @@ pub fn rnd(a: i64, b: i64) -> i64 {
     }
 }
 
-/// The greatest whole m with m·m ≤ n; n is not negative.
-pub fn root(n: i64) -> i64 {
+/// The greatest whole m with m·m ≤ n.
+pub fn root(n: u64) -> u64 {
     n.isqrt()
+}
+
+/// The steps that this root takes: one for each of its own binary digits, none for 0. (Document 02, S-2.)
+pub fn steps(root: u64) -> u32 {
+    u64::BITS - root.leading_zeros()
 }
 
 /// The load's current at voltage `v`; `None` for a P or I load at zero voltage. Between two phases `v` has parts up to
@@ -96,7 +101,7 @@ pub fn root(n: i64) -> i64 {
 pub fn load_current(load: &Load, v: Pair) -> Option<Pair> {
     let w = match load.kind {
         Kind::Power => v.square(),
-        Kind::Current => root(v.square()) * load.vn,
+        Kind::Current => root(v.square() as u64) as i64 * load.vn,
         Kind::Impedance => load.vn * load.vn,
     };
     if w == 0 {
@@ -211,9 +216,18 @@ mod tests {
     fn roots() {
         assert_eq!(root(15), 3);
         assert_eq!(root(16), 4);
-        for m in [0i64, 1, 2, 3, 719_999, 720_000, 2_828_427] {
+        for m in [0u64, 1, 2, 3, 719_999, 720_000, 2_828_427, 5_656_854, u32::MAX as u64] {
             assert_eq!(root(m * m), m);
             assert_eq!(root(m * m + 2 * m), m);
+        }
+    }
+
+    #[test]
+    fn a_step_for_each_digit() {
+        let digits = |m: u64| if m == 0 { 0 } else { format!("{m:b}").len() as u32 };
+        assert_eq!([0, 1, 16].map(|n| steps(root(n))), [0, 1, 3]);
+        for m in [0u64, 1, 2, 3, 4, 7, 8, 719_999, 1 << 31, u32::MAX as u64] {
+            assert_eq!(steps(m), digits(m));
         }
     }
 

@@ -92,8 +92,7 @@ pub next-room : {n k place trial left : ℕ} → Rooting n (suc k) place trial l
 unfolding placeSquared
 next-room {k = k} h =
     let q : 2 ^ k ≤ 2 ^ 31 = omega (arith, h .room, doubled k) in
-    let w : (h .found + 2 * 2 ^ k) ≤ 2 ^ 32 = omega (arith, h .room, doubled k) in
-    (
+    let w : (h .found + 2 * 2 ^ k) ≤ 2 ^ 32 = omega (arith, h .room, doubled k) in (
       omega (arith, h .trial-is, h .place-is, product-doubled (h .found) k, place-next k),
       omega (arith, h .place-is, next-low h, place-next k, mul-le-mul w q),
     )

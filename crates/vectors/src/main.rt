@@ -1,6 +1,6 @@
-// Tries the test cases of the reading, the study and the check, each kind from the file of its name. It writes the kind, and then a line for each
-// case: its number, and 'good', 'pass', or 'refused' with the refusal's number and value, or 'differs' where the study's buffer or answer is not the case's.
-// For the study and the check these are the bytes that the programs' own calls put into a buffer.
+// Tries the test cases of the reading, the study, the check and the whole root, each kind from the file of its name. It writes the kind, and then a line for
+// each case: its number, and 'good', 'pass', or 'refused' with the refusal's number and value, or 'differs' where the study's buffer or answer is not the
+// case's. For the study and the check these are the bytes that the programs' own calls put into a buffer. For a root it is the root and its steps.
 ghost use Prim.Native.Nat.{_≤_};
 ghost use lib.ListN.{length};
 use answers::Refusal;
@@ -10,6 +10,7 @@ use cases::count_at;
 use cases::read_cases;
 use cases::text_space;
 use check_answer::put_check_answer;
+use integers::whole::root;
 use ladder::Study;
 use ladder::study_feeder;
 use libc::STDOUT_FILENO;
@@ -25,6 +26,7 @@ enum Kind {
     Reading,
     Study,
     Check,
+    Root,
 }
 
 // Each of these writes the rest of a case's line, and answers whether it was written.
@@ -128,6 +130,28 @@ fn try_check(feeder: &[u8], report: &[u8]) -> bool {
     print(&line[..n])
 }
 
+// The number whose binary digits these are, the highest first.
+fn binary(digits: &[u8]) -> u64 {
+    let mut n = 0u64;
+    let mut k = 0;
+    while k < digits.len() {
+        n = n << 1;
+        if digits[k] == 49 {
+            n = n | 1;
+        }
+        k += 1;
+    }
+    n
+}
+
+fn try_root(digits: &[u8]) -> bool {
+    let r = root(binary(digits));
+    io::print_decimal(STDOUT_FILENO, r.root);
+    print(b" ");
+    io::print_decimal(STDOUT_FILENO, r.steps as u64);
+    print(b"\n")
+}
+
 // The line of one case, whose places lie in the text.
 fn try_case(kind: Kind, number: usize, text: &[u8], case: Case) -> bool
     requires { ⌜ (case .feeder ≤ case .report) × (case .report ≤ case .end) × (case .end ≤ length (now text)) ⌝ }
@@ -143,6 +167,7 @@ fn try_case(kind: Kind, number: usize, text: &[u8], case: Case) -> bool
         Kind::Reading => try_reading(feeder),
         Kind::Study => try_study(feeder, report, case.room),
         Kind::Check => try_check(feeder, report),
+        Kind::Root => try_root(feeder),
     }
 }
 
@@ -170,4 +195,5 @@ fn main() {
     try_file(Kind::Reading, b"reading");
     try_file(Kind::Study, b"study");
     try_file(Kind::Check, b"check");
+    try_file(Kind::Root, b"root");
 }

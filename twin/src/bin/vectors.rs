@@ -1,14 +1,15 @@
 //! vectors FOLDER: runs all cases of the folder's index.jsonl, and of its base.jsonl if it has one, and prints the
 //! differences. Files are looked for in the folder and, where the requests of document 02 share them, in the one above.
 //!
-//! The calls are study, check, and account: there the report must pass, and the differences and the allowance of the power
-//! account be those expected.
+//! The calls are study, check, account and root. For an account the report must pass, and the differences and the allowance
+//! of the power account be those expected; for a root of a number n the root and its steps.
 //!
 //! Where several values are allowed, the answer must be the first of them; for 54, where the first by the file need not
 //! be the first that is fed through none that is off, it must be among them (and a note is printed where it is not first).
 
 use std::path::{Path, PathBuf};
 use twin::account::account_of;
+use twin::equations::{root, steps};
 use twin::Answer;
 
 /// The text behind `"key": ` in a line of JSON as the index has it: no nested keys of the same name, no escaped quotes
@@ -43,6 +44,9 @@ fn before(at: usize) -> u8 {
 fn run(folder: &Path, line: &str, first: &mut usize, other: &mut usize) -> Result<(), String> {
     let read = |name: &str| std::fs::read(path(folder, name)).map_err(|e| format!("{name}: {e}"));
     let call = word(line, "call").ok_or("no call")?;
+    if call == "root" {
+        return run_root(line);
+    }
     let feeder = read(word(line, "feeder").ok_or("no feeder")?)?;
     let expected = behind(line, "expected").ok_or("nothing expected")?;
     if call == "account" {
@@ -111,6 +115,17 @@ fn run_account(feeder: &[u8], report: &[u8], expected: &str) -> Result<(), Strin
     }
     if !account.holds() {
         return Err(format!("{account:?} does not hold"));
+    }
+    Ok(())
+}
+
+/// What is wrong with a number's root or its steps.
+fn run_root(line: &str) -> Result<(), String> {
+    let due = |key: &str| number(line, key).ok_or(format!("no {key}"));
+    let (n, root_due, steps_due) = (due("n")? as u64, due("root")? as u64, due("steps")? as u32);
+    let (root, steps) = (root(n), steps(root(n)));
+    if (root, steps) != (root_due, steps_due) {
+        return Err(format!("{root} in {steps} steps, due {root_due} in {steps_due}"));
     }
     Ok(())
 }
