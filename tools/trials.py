@@ -264,8 +264,8 @@ def main():
     accounts = []
     for number, ordered in enumerate(files):
         accounts += [account_theorem(named('a', number, c), c) for c in [c for c in ordered if c['kind'][1] == 'pass'][::STEP]]
-    roots(sys.argv[1:])
     module('Accounts', 'Power accounts of reports that pass: the difference, real and reactive, and the allowance.', accounts)
+    roots(sys.argv[1:])
 
 
 if len(sys.argv) < 2:

@@ -31,7 +31,7 @@ leading-digits n h =
     let c : 2 ^ (l .0 + 1) ≡ 2 ^ l .0 * 2 ^ 1 = pow-add 2 (l .0) 1 in
     sym (root-digits n k (omega (arith, l .2)) (omega (arith, l .3)))
 
--- ---- the square of the place of the first of k digits, none for 0
+-- ---- the square of what the place of the first of k digits is worth, 0 for no digits
 unfoldable pub placeSquared : ℕ → ℕ
 placeSquared zero = 0
 placeSquared (suc k) = 2 ^ k * 2 ^ k
@@ -60,45 +60,45 @@ place-next (suc k) =
     let e : 2 ^ suc k * 2 ^ suc k ≡ 4 * (p * p) = ap (λ (x : ℕ). x * x) (doubled k) ∙ f in
     (omega arith, omega arith)
 
--- ---- the digits that are found, in their places: k more are to come
-pub record Rooting (n k place trial left : ℕ) : Type 0 where
+-- ---- the digits that are found, in their places: k more are to come. `above`: the root is below found + 2 ^ k; `room`: this is at most 2 ^ 32, so nothing passes 64 bits
+pub record Rooting (n k square trial left : ℕ) : Type 0 where
   pub found : ℕ
   pub room : (found + 2 ^ k) ≤ 2 ^ 32
-  pub place-is : place ≡ placeSquared k
+  pub square-is : square ≡ placeSquared k
   pub trial-is : trial ≡ found * 2 ^ k + placeSquared k
   pub left-is : left + found * found ≡ n
   pub above : n < (found + 2 ^ k) * (found + 2 ^ k)
 
 -- before the first
-pub rooting-start : (n k place : ℕ) → k ≡ binaryDigits (root n) → k ≤ 32 → place ≡ placeSquared k → Rooting n k place place n
-rooting-start n k place all few e =
+pub rooting-start : (n k square : ℕ) → k ≡ binaryDigits (root n) → k ≤ 32 → square ≡ placeSquared k → Rooting n k square square n
+rooting-start n k square all few e =
     let d : root n < 2 ^ k = rw all (digits-law (root n) .enough) in
     let q : (root n + 1) * (root n + 1) ≤ 2 ^ k * 2 ^ k = mul-le-mul (omega arith) (omega arith) in
     record {
       found = 0;
       room = omega (arith, pow-mono {i = k} {j = 32} few);
-      place-is = e;
+      square-is = e;
       trial-is = omega arith;
       left-is = omega arith;
       above = omega (arith, root-law n .high);
     }
 
 -- the trial for the next place where the digit is 0
-next-low : {n k place trial left : ℕ} (h : Rooting n (suc k) place trial left) → (trial / 2) - (place / 4) ≡ h .found * 2 ^ k + placeSquared k
-next-low {k = k} h = omega (arith, h .trial-is, h .place-is, product-doubled (h .found) k, place-next k)
+next-low : {n k square trial left : ℕ} (h : Rooting n (suc k) square trial left) → (trial / 2) - (square / 4) ≡ h .found * 2 ^ k + placeSquared k
+next-low {k = k} h = omega (arith, h .trial-is, h .square-is, product-doubled (h .found) k, place-next k)
 
--- there is room for it with the digit 1: f * p + next + p * p is at most (f + 2 * p) * p
-pub next-room : {n k place trial left : ℕ} → Rooting n (suc k) place trial left → ((place / 4) ≤ trial / 2) × ((trial / 2 - place / 4 + place) < 2 ^ 64)
+-- the difference does not go below 0, and the trial behind a digit 1 fits: found * 2 ^ k and two squares are at most (found + 2 * 2 ^ k) * 2 ^ k, so at most 2 ^ 63
+pub next-room : {n k square trial left : ℕ} → Rooting n (suc k) square trial left → ((square / 4) ≤ trial / 2) × ((trial / 2 - square / 4 + square) < 2 ^ 64)
 unfolding placeSquared
 next-room {k = k} h =
     let q : 2 ^ k ≤ 2 ^ 31 = omega (arith, h .room, doubled k) in
     let w : (h .found + 2 * 2 ^ k) ≤ 2 ^ 32 = omega (arith, h .room, doubled k) in (
-      omega (arith, h .trial-is, h .place-is, product-doubled (h .found) k, place-next k),
-      omega (arith, h .place-is, next-low h, place-next k, mul-le-mul w q),
+      omega (arith, h .trial-is, h .square-is, product-doubled (h .found) k, place-next k),
+      omega (arith, h .square-is, next-low h, place-next k, mul-le-mul w q),
     )
 
 -- one step: the digit is 1 where the trial is not above what is left
-pub rooting-one : {n k place trial left : ℕ} → Rooting n (suc k) place trial left → trial ≤ left → Rooting n k (place / 4) (trial / 2 - place / 4 + place) (left - trial)
+pub rooting-one : {n k square trial left : ℕ} → Rooting n (suc k) square trial left → trial ≤ left → Rooting n k (square / 4) (trial / 2 - square / 4 + square) (left - trial)
 unfolding placeSquared
 rooting-one {n} {k} h t =
     let f : ℕ = h .found in
@@ -107,26 +107,26 @@ rooting-one {n} {k} h t =
     record {
       found = f + p;
       room = omega (arith, h .room, doubled k);
-      place-is = omega (arith, h .place-is, place-next k);
-      trial-is = omega (arith, next-low h, h .place-is);
+      square-is = omega (arith, h .square-is, place-next k);
+      trial-is = omega (arith, next-low h, h .square-is);
       left-is = omega (arith, h .left-is, h .trial-is, product-doubled f k);
       above = omega arith;
     }
 
-pub rooting-zero : {n k place trial left : ℕ} → Rooting n (suc k) place trial left → left < trial → Rooting n k (place / 4) (trial / 2 - place / 4) left
+pub rooting-zero : {n k square trial left : ℕ} → Rooting n (suc k) square trial left → left < trial → Rooting n k (square / 4) (trial / 2 - square / 4) left
 unfolding placeSquared
 rooting-zero {k = k} h t =
     record {
       found = h .found;
       room = omega (arith, h .room, doubled k);
-      place-is = omega (arith, h .place-is, place-next k);
+      square-is = omega (arith, h .square-is, place-next k);
       trial-is = next-low h;
       left-is = h .left-is;
       above = omega (arith, h .left-is, h .trial-is, product-doubled (h .found) k);
     }
 
 -- no digit is to come: the trial is the root
-pub rooting-end : {n place trial left : ℕ} → Rooting n 0 place trial left → trial ≡ root n
+pub rooting-end : {n square trial left : ℕ} → Rooting n 0 square trial left → trial ≡ root n
 unfolding placeSquared
 rooting-end {trial = t} h =
     let e : t ≡ h .found = omega (arith, h .trial-is) in

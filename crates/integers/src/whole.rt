@@ -114,7 +114,8 @@ pub fn rnd_to(a: i64, d: u64) -> i64
     rnd_div(a, b)
 }
 
-// How many binary digits the root of n has: half as many as n has, or the next number up. The count of leading zeros tells it.
+// How many binary digits the root of n has: half as many as n has, rounded up, since a square has twice as many as its root or one less. The count of
+// leading zeros tells how many n has. `few` says nothing new: the proof of `root` reads it.
 fn root_digits(n: u64) -> u32
     ensures digits { λ r. ⌜ r ≡ binaryDigits (root n) ⌝ }
     ensures few { λ r. ⌜ r ≤ 32 ⌝ }
@@ -122,8 +123,8 @@ fn root_digits(n: u64) -> u32
     32 - u64::leading_zeros(n) / 2
 }
 
-// The square of the place of the first of k binary digits, 0 for no digits.
-fn first_place(k: u32) -> u64
+// The first of k binary digits stands at the place worth 2 ^ (k - 1). This is the square of that, and 0 where there are no digits.
+fn first_place_squared(k: u32) -> u64
     requires { ⌜ k ≤ 32 ⌝ }
     ensures { λ r. ⌜ r ≡ placeSquared k ⌝ }
 {
@@ -139,29 +140,30 @@ pub struct Rooted {
     pub steps: u32,
 }
 
-// The greatest m with m * m <= n, one binary digit in each step, the highest first. With M for the digits that are found, in their places, and P for
-// the place of the next one, `place` is P * P, `left` is n - M * M, and `trial` is what a digit 1 takes from it, (M + P) * (M + P) - M * M = 2 * M * P + P * P.
-// For the next place P / 2 the trial is M * P + P * P / 4, and P * P more where M has become M + P. Behind the last digit it is M.
-// `low` stands before the test, so that both arms only choose: a processor would guess the digits of a root wrong every second time.
+// The greatest m with m * m <= n, one binary digit in each step, the highest first. M is the number made of the digits that are found, in their places, and P
+// is what the next place is worth. `square` is P * P, `left` is n - M * M, and `trial` is what a digit 1 would take from `left`:
+// (M + P) * (M + P) - M * M = 2 * M * P + P * P. `low` is the next trial where the digit is 0, M * P + P * P / 4: half of `trial` less a quarter of `square`.
+// Where the digit is 1, it is P * P more. At the last place P is 1, both shifts round down, and `trial` becomes the root.
+// `low` is worked before the test, so that the compiler makes conditional moves of it: a branch would be predicted wrong for about every second digit.
 pub fn root(n: u64) -> Rooted
     ensures root { λ r. ⌜ r .root ≡ root n ⌝ }
     ensures steps { λ r. ⌜ r .steps ≡ binaryDigits (root n) ⌝ }
 {
     let digits = root_digits(n);
-    let mut place = first_place(digits);
-    let mut trial = place;
+    let mut square = first_place_squared(digits);
+    let mut trial = square;
     let mut left = n;
     let mut steps = 0u32;
     while steps < digits {
-        let next = place >> 2;
+        let next = square >> 2;
         let low = (trial >> 1) - next;
         if trial <= left {
             left -= trial;
-            trial = low + place;
+            trial = low + square;
         } else {
             trial = low;
         }
-        place = next;
+        square = next;
         steps += 1;
     }
     Rooted { root: trial, steps }

@@ -1,6 +1,6 @@
 // Tries the test cases of the reading, the study, the check and the whole root, each kind from the file of its name. It writes the kind, and then a line for
 // each case: its number, and 'good', 'pass', or 'refused' with the refusal's number and value, or 'differs' where the study's buffer or answer is not the
-// case's. For the study and the check these are the bytes that the programs' own calls put into a buffer. For a root it is the root and its steps.
+// case's. For the study and the check these are the bytes that the programs' own calls put into a buffer. For a root the line has the root and its steps.
 ghost use Prim.Native.Nat.{_≤_};
 ghost use lib.ListN.{length};
 use answers::Refusal;
@@ -27,6 +27,21 @@ enum Kind {
     Study,
     Check,
     Root,
+}
+
+// The number whose binary digits these are as text, the highest first. 49 is the byte of 1. The programs' own reader takes
+// numbers of 18 decimal digits, and those of the roots have up to 20.
+fn binary(digits: &[u8]) -> u64 {
+    let mut n = 0u64;
+    let mut k = 0;
+    while k < digits.len() {
+        n = n << 1;
+        if digits[k] == 49 {
+            n = n | 1;
+        }
+        k += 1;
+    }
+    n
 }
 
 // Each of these writes the rest of a case's line, and answers whether it was written.
@@ -128,20 +143,6 @@ fn try_check(feeder: &[u8], report: &[u8]) -> bool {
     let mut line = io::buffer();
     let n = put_check_answer(feeder, report, &mut line);
     print(&line[..n])
-}
-
-// The number whose binary digits these are, the highest first.
-fn binary(digits: &[u8]) -> u64 {
-    let mut n = 0u64;
-    let mut k = 0;
-    while k < digits.len() {
-        n = n << 1;
-        if digits[k] == 49 {
-            n = n | 1;
-        }
-        k += 1;
-    }
-    n
 }
 
 fn try_root(digits: &[u8]) -> bool {

@@ -1,4 +1,4 @@
--- `whole::root_digits` meets its contract: half of the count of leading zeros is left out of 32. Assumes nothing.
+-- `whole::root_digits` meets its contract: 32 less half of the count of leading zeros. Assumes nothing.
 use native.Mathlib.Omega.{arith}
 use lib.Count.{leading-le}
 use Rattle.integers.specs.RootSteps.{leading-digits}

@@ -1,10 +1,10 @@
--- `whole::first_place` meets its contract: a shift by twice the number of digits behind the first. Assumes nothing.
-use mathlib.Core.Path.{_≡_, ap, sym}
+-- `whole::first_place_squared` meets its contract: a shift by twice the number of digits behind the first. Assumes nothing.
+use mathlib.Core.Path.{ap, sym}
 use native.Mathlib.Omega.{arith}
 use borrow.Author.Needs.{needs}
 use Rattle.integers.specs.RootSteps.{placeSquared, place-shifted}
-use Rattle.integers.proofs.whole.first_place.Statement.{statement}
-use Rattle.integers.proofs.whole.first_place.Tie as tie
+use Rattle.integers.proofs.whole.first_place_squared.Statement.{statement}
+use Rattle.integers.proofs.whole.first_place_squared.Tie as tie
 
 returns : tie.Need-returns
 unfolding placeSquared
@@ -25,5 +25,5 @@ shl-result c = omega (arith, c .before .pre)
 returns-2 : tie.Need-returns-2
 returns-2 c = place-shifted (c .before .args .k) (c .before .pre) (c .if1 .left)
 
-pub first-place-spec : {M : Type 1} → statement M
-first-place-spec = tie.close (tie.spec returns mul-result sub-result cast-result shl-result returns-2)
+pub first-place-squared-spec : {M : Type 1} → statement M
+first-place-squared-spec = tie.close (tie.spec returns mul-result sub-result cast-result shl-result returns-2)
