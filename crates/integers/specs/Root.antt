@@ -13,7 +13,7 @@ rootBy (suc k) n =
 unfoldable pub root : ℕ → ℕ
 root n = rootBy n n
 
--- "one step for each of its own binary digits (none for 0)": m has one binary digit more than m / 2 has. k bounds the steps
+-- "one step for each of its own binary digits (none for 0)": m has one binary digit more than m / 2 has. k bounds how often m is halved
 unfoldable pub digitsBy : ℕ → ℕ → ℕ
 digitsBy zero m = 0
 digitsBy (suc k) m = elim (eqb m 0) [ true ↦ 0 | false ↦ let d = digitsBy k (m / 2) in suc d ]

@@ -91,8 +91,8 @@ next-low {k = k} h = omega (arith, h .trial-is, h .square-is, product-doubled (h
 pub next-room : {n k square trial left : ℕ} → Rooting n (suc k) square trial left → ((square / 4) ≤ trial / 2) × ((trial / 2 - square / 4 + square) < 2 ^ 64)
 unfolding placeSquared
 next-room {k = k} h =
-    let q : 2 ^ k ≤ 2 ^ 31 = omega (arith, h .room, doubled k) in
-    let w : (h .found + 2 * 2 ^ k) ≤ 2 ^ 32 = omega (arith, h .room, doubled k) in (
+    let q : 2 ^ k ≤ 2 ^ 31 = omega (arith, h .room) in
+    let w : (h .found + 2 * 2 ^ k) ≤ 2 ^ 32 = omega (arith, h .room) in (
       omega (arith, h .trial-is, h .square-is, product-doubled (h .found) k, place-next k),
       omega (arith, h .square-is, next-low h, place-next k, mul-le-mul w q),
     )
@@ -106,7 +106,7 @@ rooting-one {n} {k} h t =
     let a : n < (f + 2 * p) * (f + 2 * p) = rw (doubled k) at (h .above) in
     record {
       found = f + p;
-      room = omega (arith, h .room, doubled k);
+      room = omega (arith, h .room);
       square-is = omega (arith, h .square-is, place-next k);
       trial-is = omega (arith, next-low h, h .square-is);
       left-is = omega (arith, h .left-is, h .trial-is, product-doubled f k);
@@ -118,7 +118,7 @@ unfolding placeSquared
 rooting-zero {k = k} h t =
     record {
       found = h .found;
-      room = omega (arith, h .room, doubled k);
+      room = omega (arith, h .room);
       square-is = omega (arith, h .square-is, place-next k);
       trial-is = next-low h;
       left-is = h .left-is;

@@ -123,7 +123,8 @@ fn run_account(feeder: &[u8], report: &[u8], expected: &str) -> Result<(), Strin
 fn run_root(line: &str) -> Result<(), String> {
     let due = |key: &str| number(line, key).ok_or(format!("no {key}"));
     let (n, root_due, steps_due) = (due("n")? as u64, due("root")? as u64, due("steps")? as u32);
-    let (root, steps) = (root(n), steps(root(n)));
+    let root = root(n);
+    let steps = steps(root);
     if (root, steps) != (root_due, steps_due) {
         return Err(format!("{root} in {steps} steps, due {root_due} in {steps_due}"));
     }
