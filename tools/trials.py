@@ -165,6 +165,9 @@ def account(feeder, report):
         u = tuple(sum(sign * v[k] for sign, v in zip(SIGNS[phase], voltage[node])) for k in (0, 1))
         s, vn = (int(p) * 100000, int(q) * 100000), int(vn)
         square = u[0] ** 2 + u[1] ** 2
+        # below 70 per cent of vn a P row has the current and the rating of a Z row
+        if kind == 'P' and 100 * square < 49 * vn * vn:
+            kind = 'Z'
         w = {'P': square, 'I': math.isqrt(square) * vn, 'Z': vn * vn}[kind]
         sums.append(s if kind == 'P' else rnd((s[0] * square, s[1] * square), w))
         allowed += 2 * len(phase) * tol * size(rnd(times(conj(s), u), w)) + size(u) + 1

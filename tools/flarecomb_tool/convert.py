@@ -22,7 +22,7 @@ branch table (known by the column from):
 load table (known by the column node):
   node, phase                        where the load stands; phase A, B or C to ground, or AB, BC or CA between two phases
   kind                               P constant power, I constant current, Z constant impedance
-  vn_v                               rated voltage in V, to ground or between the two phases: whole 0.01 V
+  vn_v                               rated voltage in V, to ground or between the two phases: whole 0.01 V; below 70 per cent of it P acts as Z
   p_kw, q_kvar                       rated power in kW and kvar: whole W and var; a capacitor is a Z row with p 0 and q negative
 
 The branch and the load table may be left out where the feeder has none. An impedance between two phases that has no value is taken as 0.

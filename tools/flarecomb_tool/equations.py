@@ -14,8 +14,9 @@ STEPS = 160  # a tap's step is 1/160
 
 # What is refused, with the row it arises in and a value: (re, im) of a voltage or a current.
 Trouble = collections.namedtuple("Trouble", "number sweep row phase value end", defaults=("",))
-# A settled study, or one that ran out of sweeps: moved[k] is the greatest movement in sweep k + 1, with its node and phase.
-Studied = collections.namedtuple("Studied", "voltages currents sweeps moved trouble")
+# A settled study, or one that ran out of sweeps: moved[k] is the greatest movement in sweep k + 1, with its node and phase, and used[k] are
+# the voltages that this sweep took its currents from.
+Studied = collections.namedtuple("Studied", "voltages currents sweeps moved used trouble")
 Movement = collections.namedtuple("Movement", "size node phase")
 
 
@@ -49,6 +50,10 @@ def conjugate(pair):
     return (pair[0], -pair[1])
 
 
+def square(pair):
+    return pair[0] ** 2 + pair[1] ** 2
+
+
 def total(pairs):
     sum_of_all = ZERO
     for pair in pairs:
@@ -70,11 +75,29 @@ def spread(load, current):
     return [scaled(sign, current) for sign in LOAD_SIGNS[load.phase]]
 
 
+def acts_as(load, voltage):
+    """The kind as which the load acts at this voltage: one of kind P acts as Z below 70 per cent of vn, and at just 70 per cent still as P.
+
+    Its current, its rating and refusal 30 go by this, each at the voltage that it is worked from."""
+    return "Z" if load.kind == "P" and 100 * square(voltage) < 49 * load.vn**2 else load.kind
+
+
+def is_low(load, voltage):
+    """Whether the load is of kind P and acts as Z at this voltage."""
+    return acts_as(load, voltage) != load.kind
+
+
+def weight(load, voltage):
+    """What the load's current and its rating are divided by. It is 0 where a load of kind I has voltage 0, and nowhere else: refusal 30."""
+    kind = acts_as(load, voltage)
+    if kind == "P":
+        return square(voltage)
+    return load.vn**2 if kind == "Z" else math.isqrt(square(voltage)) * load.vn
+
+
 def load_current(load, voltage):
-    """The load's current; its voltage is not 0 where its kind is P or I."""
-    square = voltage[0] ** 2 + voltage[1] ** 2
-    divisor = {"P": square, "I": math.isqrt(square) * load.vn, "Z": load.vn**2}[load.kind]
-    return rounded_pair(scaled(GRAINS_IN_A_WATT, times((load.p, -load.q), voltage)), divisor)
+    """The load's current, where its weight is not 0."""
+    return rounded_pair(scaled(GRAINS_IN_A_WATT, times((load.p, -load.q), voltage)), weight(load, voltage))
 
 
 def _has(branch, place):
@@ -164,7 +187,7 @@ def currents_at(feeder, voltages, sweep):
     """
     at = [load_voltage(load, voltages[load.node]) for load in feeder.loads]
     for load, voltage in zip(feeder.loads, at):
-        if load.kind != "Z" and voltage == ZERO:
+        if weight(load, voltage) == 0:
             return None, None, Trouble(30, sweep, load, load.phase, ZERO)
     taken = [load_current(load, voltage) for load, voltage in zip(feeder.loads, at)]
     for load, current in zip(feeder.loads, taken):
@@ -215,19 +238,20 @@ def study(feeder, tol=None, most_sweeps=None):
     most_sweeps = feeder.source.sweeps if most_sweeps is None else most_sweeps
     nothing = {branch.to_node: [ZERO] * 3 for branch in feeder.branches}
     voltages, trouble = voltages_down(feeder, nothing, 0)
-    moved = []
+    moved, used = [], []
     for sweep in range(1, most_sweeps + 1):
+        used.append(voltages)
         if trouble is None:
             _, currents, trouble = currents_at(feeder, voltages, sweep)
         if trouble is None:
             after, trouble = voltages_down(feeder, currents, sweep)
         if trouble is not None:
-            return Studied(voltages, None, sweep, moved, trouble)
+            return Studied(voltages, None, sweep, moved, used, trouble)
         moved.append(greatest_movement(feeder, voltages, after))
         if moved[-1].size <= tol:
-            return Studied(voltages, currents, sweep, moved, None)
+            return Studied(voltages, currents, sweep, moved, used, None)
         voltages = after
-    return Studied(voltages, currents, most_sweeps, moved, Trouble(34, most_sweeps, None, moved[-1].phase, ZERO))
+    return Studied(voltages, currents, most_sweeps, moved, used, Trouble(34, most_sweeps, None, moved[-1].phase, ZERO))
 
 
 def powers(feeder, voltages, load_currents, currents):

@@ -18,11 +18,11 @@ RULES = {
     22: "Each branch is reached from the source.",
     23: "The phases of a branch or a load are among those of its node; a transformer has ABC.",
     24: "A field without a meaning, or of an absent phase, is 0.",
-    30: "A load of kind P or I has voltage 0. Look at the source voltage of its phases and at turns ratios.",
+    30: "A load of kind I has voltage 0. Look at the source voltage of its phases and at turns ratios.",
     31: "A load's current, re or im, is beyond 2000 A. Look at p, q, vn, the source voltage and turns ratios.",
     32: "A branch's current, re or im, is beyond 2000 A. Look at the loads behind it and at turns ratios.",
     33: "A voltage, re or im, is beyond 20000 V. Look at the source voltage, turns ratios, taps and loads.",
-    34: "The voltages did not settle. Allow more sweeps, then a larger tol.",
+    34: "The voltages did not settle. Allow more sweeps, then a larger tol. Look whether a P load goes to and fro across 70 per cent of its vn.",
     50: "The file is not laid out as a report of this feeder.",
     51: "A name differs from the feeder's.",
     52: "The source voltage differs, or an absent phase has a voltage.",
@@ -130,7 +130,10 @@ def _report_sentences(feeder, feeder_data, report_data, number, value):
         line, sentences = explain_report.other_power(feeder, report)
     else:
         return None, []
-    return line, sentences + (explain_report.against_study(feeder, report_data) if sentences else [])
+    if not sentences:
+        return line, []
+    older = explain_report.older_rule(feeder, report) if number != 54 else []
+    return line, sentences + (older or explain_report.against_study(feeder, report_data))
 
 
 def check_refusal(feeder_data, report_data, number, value, feeder_name="the feeder", report_name="the report"):

@@ -4,11 +4,13 @@ from .explain_fields import label
 from .explain_layout import layout_fault
 from .explain_values import limits_said
 from .format import CURRENTS, NODES, REPORT_TABLES, TOTALS, outside_limit, split_lines
-from .wording import begun, counted, listed
+from .wording import begun, counted, lines_said, listed
 
 NODE_VOLTAGES = NODES.columns[1:]
 BRANCH_CURRENTS = CURRENTS.columns[2:8]
 MOST_SHOWN = 4
+# From this version on a load of kind P acts as Z below 70 per cent of vn. No mark in a report tells which version wrote it.
+LOW_VOLTAGE_VERSION = "0.4.0"
 
 
 def six(three):
@@ -129,6 +131,35 @@ def against_study(feeder, report_data):
     return [
         f"Only line {numbers} differs from the feeder's own report. There it has: {differing[0][1]}" if one_line
         else f"Only lines {numbers} differ from the feeder's own report: the report was edited, or the feeder was changed since."
+    ]
+
+
+def _follows(feeder, report):
+    """Whether the report's currents, voltages and powers are those of the feeder: whether none of 30 to 32 and 53 to 55 applies."""
+    reported = voltages_of(feeder, report)
+    _, currents, trouble = equations.currents_at(feeder, reported, 0)
+    if trouble is not None or any(list(row.current) != currents[branch.to_node] for branch, row in zip(feeder.branches, report.currents)):
+        return False
+    worked, _ = equations.voltages_down(feeder, currents, 0)
+    moved = equations.greatest_movement(feeder, reported, worked)
+    return moved.size <= feeder.source.tol and not other_power(feeder, report)[1]
+
+
+def older_rule(feeder, report):
+    """Sentences for 53 and 55 where all values of the report agree if loads of kind P have constant power at every voltage, as they had before
+    the low-voltage rule; [] where they do not, and where a load of kind P has voltage 0, which was refused with 30 then."""
+    voltages = voltages_of(feeder, report)
+    power_loads = [(load, equations.load_voltage(load, voltages[load.node])) for load in feeder.loads if load.kind == "P"]
+    low = [load.line for load, voltage in power_loads if equations.is_low(load, voltage)]
+    # With a vn of 1 cV every voltage but 0 is above 70 per cent.
+    before = feeder._replace(loads=[load._replace(vn=1) if load.kind == "P" else load for load in feeder.loads])
+    if not low or any(voltage == equations.ZERO for _, voltage in power_loads) or not _follows(before, report):
+        return []
+    trouble = equations.study(feeder).trouble
+    return [
+        f"The report may be older than version {LOW_VOLTAGE_VERSION}: with constant power at every voltage, as before it, all values agree.",
+        f"From that version on a P row acts as Z below 70 per cent of its vn, as here in {lines_said(low)} of the feeder. "
+        + ("Study the feeder again." if trouble is None else f"The study now refuses the feeder with {trouble.number}."),
     ]
 
 

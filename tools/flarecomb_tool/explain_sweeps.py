@@ -3,15 +3,25 @@ from . import equations
 from .explain_units import source_hint, vn_hint
 from .format import CURRENT_LIMIT, PHASES, VOLTAGE_LIMIT, is_between, load_phases
 from .power import nearest_root, square
-from .wording import amperes, between_said, counted, listed, ohms, volts
+from .wording import amperes, between_said, counted, lines_said, listed, ohms, per_cent_of_rated, volts
 
 MOST_SWEEPS = 100
 MOST_TOL = 1000
+# In so many of the last sweeps a load is looked at for going to and fro; voltages that repeat mostly do so after two or three sweeps.
+SWEEPS_LOOKED_AT = 10
+
+TOO_LARGE_A_DROP = ("The currents make a larger drop than the branches can have: too much load, impedances that are too large, "
+                    "or a Z load with less impedance than the branches above it.")
 
 
 def _size(pair):
     """The size of a voltage, at the nearest whole number."""
     return nearest_root(square(pair))
+
+
+def _at(load, voltages):
+    """The load's voltage, from those of all nodes."""
+    return equations.load_voltage(load, voltages[load.node])
 
 
 def _source_said(feeder):
@@ -69,7 +79,7 @@ def _largest_impedance(feeder, node, phases):
 
 def _zero_voltage(feeder, trouble, in_check):
     load = trouble.row
-    sentences = [f"{_load_said(load)} has voltage 0: a load of kind P or I has no current there."]
+    sentences = [f"{_load_said(load)} has voltage 0: a load of kind I has no current there."]
     way = _above(feeder, load.node)
     between = is_between(load.phase)
     same = f"the same voltage on {listed(load.phase)}"
@@ -89,17 +99,18 @@ def _zero_voltage(feeder, trouble, in_check):
 
 
 def _load_current(feeder, trouble, voltage):
-    load = trouble.row
+    load, kind = trouble.row, equations.acts_as(trouble.row, voltage)
+    low = ": below 70 per cent of vn it acts as Z" if kind != load.kind else ""
     sentences = [
         f"{_load_said(load)} takes {listed(amperes(part) for part in trouble.value)} (re and im): the limit is {amperes(CURRENT_LIMIT)} for each.",
         f"Its voltage is {volts(_size(voltage))}{between_said(load.phase)}"
-        + (f", its rated voltage vn {volts(load.vn)}." if load.kind != "P" else "."),
+        + (f", its rated voltage vn {volts(load.vn)}{low}." if kind != "P" else "."),
     ]
     units = vn_hint(feeder, load) or vn_hint(feeder)
     sentences += units
     if trouble.sweep > 1 and not units and not source_hint(feeder):
         sentences.append("Its voltage fell in the sweeps before: more constant-power load than the branches above can carry, "
-                         "or impedances that are too large.")
+                         "or impedances that are too large." if kind == "P" else TOO_LARGE_A_DROP)
         sentences += _largest_impedance(feeder, load.node, load_phases(load.phase))
     return sentences + [_source_said(feeder)]
 
@@ -136,8 +147,54 @@ def _voltage(feeder, trouble):
     units = _units_said(feeder)
     if units:
         return sentences + units
-    return sentences + ["The currents make a larger drop than the branches can have: too much load, impedances that are too large, "
-                        "or a Z load with less impedance than the branches above it."] + _largest_impedance(feeder, branch.to_node, trouble.phase)
+    return sentences + [TOO_LARGE_A_DROP] + _largest_impedance(feeder, branch.to_node, trouble.phase)
+
+
+def _to_and_fro(feeder, used):
+    """The loads of kind P that went below 70 per cent of vn and back again, or back and below again, in the last sweeps; used is a Studied's.
+
+    Pairs of a load and the last sweep in which it was on the other side than in the sweep before."""
+    found = []
+    for load in feeder.loads:
+        low = [equations.is_low(load, _at(load, voltages)) for voltages in used[-SWEEPS_LOOKED_AT:]]
+        crossed = [place for place in range(1, len(low)) if low[place] != low[place - 1]]
+        if len(crossed) > 1:
+            found.append((load, len(used) - len(low) + crossed[-1] + 1))
+    return found
+
+
+def _to_and_fro_said(crossing, used):
+    """Which loads go to and fro, the first with its voltage on both sides."""
+    load, sweep = crossing[0]
+    before, after = (per_cent_of_rated(load, _at(load, used[place - 1])) for place in (sweep - 1, sweep))
+    others = [other.line for other, _ in crossing[1:]]
+    more = f" So do the loads in {lines_said(others)}." if len(others) > 1 else f" So does the load in line {others[0]}." if others else ""
+    return (f"{_load_said(load)} goes to and fro across 70 per cent of vn, below which it acts as Z: "
+            f"it has {before} per cent in sweep {sweep - 1} and {after} per cent in sweep {sweep}.{more}")
+
+
+def _least_tol(studied):
+    """(tol, sweep): the least tol with which a study that met 34 ends, and its last sweep then; None where no tol up to the most ends it."""
+    sizes = [movement.size for movement in studied.moved]
+    least = min(sizes)
+    return (least, sizes.index(least) + 1) if least <= MOST_TOL else None
+
+
+def _as_impedances(feeder, crossing):
+    """Sentences on what to do where the study ends with the loads that go to and fro as Z; [] where it does not."""
+    lines = {load.line for load, _ in crossing}
+    changed = feeder._replace(loads=[load._replace(kind="Z") if load.line in lines else load for load in feeder.loads])
+    studied = equations.study(changed, most_sweeps=MOST_SWEEPS)
+    sweeps, tol = studied.sweeps, ""
+    if studied.trouble is not None:
+        ends = _least_tol(studied) if studied.trouble.number == 34 else None
+        if ends is None:
+            return []
+        sweeps, tol = ends[1], f" with tol {ends[0]}"
+    first = crossing[0][0]
+    return ["Look at why the voltage is so low: impedances, loads, taps and vn. Where a motor is known to run below 70 per cent, write "
+            f"{'the row' if len(lines) == 1 else 'these rows'} as Z: the study then takes {counted(sweeps, 'sweep')}{tol}, "
+            f"and line {first.line} has {per_cent_of_rated(first, _at(first, studied.used[sweeps - 1]))} per cent of vn."]
 
 
 def _not_settled(feeder, studied):
@@ -158,15 +215,21 @@ def _not_settled(feeder, studied):
             sentences.append(f"It does not settle in {MOST_SWEEPS} sweeps, the most that may be made.")
         else:
             sentences.append(f"More sweeps do not help: sweep {longer.trouble.sweep} would be refused with {longer.trouble.number}.")
-        moved = longer.moved
     else:
-        moved = studied.moved
-    sizes = [movement.size for movement in moved]
-    least = min(sizes)
-    if least <= MOST_TOL:
-        sweep = sizes.index(least) + 1
+        longer = studied
+    crossing = _to_and_fro(feeder, longer.used) if longer.trouble.number == 34 else []
+    if crossing:
+        sentences.append(_to_and_fro_said(crossing, longer.used))
+    ends = _least_tol(longer)
+    if ends:
+        tol, sweep = ends
         limit = "" if sweep <= source.sweeps else f" and sweeps {sweep}"
-        return sentences + [f"With tol {least}{limit} it ends in sweep {sweep}."]
+        return sentences + [f"With tol {tol}{limit} it ends in sweep {sweep}."]
+    advice = _as_impedances(feeder, crossing) if crossing else []
+    if advice:
+        sentences.append(f"No tol up to {MOST_TOL} settles it: as P the load draws so much that its voltage falls below 70 per cent, "
+                         "as Z so little that it rises above.")
+        return sentences + advice + _largest_impedance(feeder, crossing[0][0].node, load_phases(crossing[0][0].phase))
     return sentences + [
         f"No tol up to {MOST_TOL} settles it: a load is near or beyond the most that the branches above it can carry."
     ] + _largest_impedance(feeder, last.node, last.phase)
@@ -181,7 +244,7 @@ def study_fault(feeder, number, value):
     if number == 30:
         return _zero_voltage(feeder, trouble, False)
     if number == 31:
-        return _load_current(feeder, trouble, equations.load_voltage(trouble.row, studied.voltages[trouble.row.node]))
+        return _load_current(feeder, trouble, _at(trouble.row, studied.voltages))
     if number == 32:
         return _branch_current(feeder, trouble)
     if number == 33:
@@ -197,5 +260,5 @@ def check_fault(feeder, voltages, number):
     if number == 30:
         return _zero_voltage(feeder, trouble, True)
     if number == 31:
-        return _load_current(feeder, trouble, equations.load_voltage(trouble.row, voltages[trouble.row.node]))[:2]
+        return _load_current(feeder, trouble, _at(trouble.row, voltages))[:2]
     return _branch_current(feeder, trouble)[:2]

@@ -46,7 +46,7 @@ def _why_outside(table, column, value, values):
         return [f"Kind {kind} is a transformer ({BRANCH_KINDS[kind].split(', ')[1]}): p1 is N and p2 is M. If the row is a line, its kind is L."]
     if column.name == "vn":
         if value == 0 and values[2] == "P":
-            return ["vn must be given for kind P too, where it is not used."]
+            return ["vn must be given for kind P too: below 70 per cent of it the load acts as Z."]
         if is_between(values[LOAD_PHASE]):
             return ["vn is the voltage between the two phases."]
         return ["vn is the voltage to ground."]

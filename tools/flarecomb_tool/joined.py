@@ -5,8 +5,9 @@ import collections
 from . import equations, format, power
 from .equations import ZERO, conjugate, minus, plus, times, total
 
-# What a load row draws at the reported voltage: current in mA, rating and drawn power in grains; None where refusal 30 stands.
-LoadFlow = collections.namedtuple("LoadFlow", "load voltage current rating drawn")
+# What a load row draws at the reported voltage: the kind as which it acts there, current in mA, rating and drawn power in grains; the last
+# three are None where refusal 30 stands.
+LoadFlow = collections.namedtuple("LoadFlow", "load voltage acts_as current rating drawn")
 # The power account, in grains: pairs of real and reactive power, and one allowance for twice the difference of each.
 Account = collections.namedtuple("Account", "source ratings losses difference allowance within")
 Extreme = collections.namedtuple("Extreme", "per_unit node phase voltage")
@@ -101,7 +102,7 @@ class Joined:
         voltage = equations.load_voltage(load, self.voltage[load.node])
         current = power.load_current(load, voltage)
         drawn = None if current is None else times(voltage, conjugate(current))
-        return LoadFlow(load, voltage, current, power.load_rating(load, voltage), drawn)
+        return LoadFlow(load, voltage, equations.acts_as(load, voltage), current, power.load_rating(load, voltage), drawn)
 
     def flow_into(self, node):
         """Power in grains that the branch to this node hands over there, all phases together."""
@@ -127,7 +128,7 @@ class Joined:
         return min(found, key=lambda one: one.per_unit), max(found, key=lambda one: one.per_unit)
 
     def account(self):
-        """Demand 3's power account, or None where a load of kind P or I stands at zero voltage."""
+        """Demand 3's power account, or None where a load of kind I stands at zero voltage."""
         if any(flow.current is None for flow in self.loads):
             return None
         tol = self.feeder.source.tol

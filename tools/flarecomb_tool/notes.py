@@ -7,7 +7,7 @@ import collections
 from . import format, power
 from .equations import ZERO
 from .joined import CannotJoin, Joined
-from .wording import begun, between_said, lines_said, listed, ohms, volts, watts
+from .wording import begun, between_said, lines_said, listed, ohms, per_cent_of_rated, volts, watts
 
 # line is that of the feeder, None where the note is on the feeder as a whole.
 Note = collections.namedtuple("Note", "line text")
@@ -123,12 +123,18 @@ def _rated_voltages(joined):
     found = []
     for flow in joined.loads:
         load, size = flow.load, power.nearest_root(power.square(flow.voltage))
+        between = between_said(load.phase)
+        has = f"its node {load.node} has {volts(size)}{between or f' on {load.phase}'}"
         if size and not LEAST_RATED <= load.vn / size <= MOST_RATED:
-            use = " (vn is not used in a P row)" if load.kind == "P" else ""
-            between = between_said(load.phase)
+            use = ""
+            if flow.acts_as != load.kind:
+                use = f", {per_cent_of_rated(load, flow.voltage)} per cent of vn: below 70 per cent a P row acts as Z"
+            elif load.kind == "P":
+                use = " (a P row uses vn only below 70 per cent of it, where it acts as Z)"
             rule = "from phase to phase, about 1.73 times that to ground" if between else "to ground"
-            found.append(Note(load.line, f"vn is {volts(load.vn)}, its node {load.node} has {volts(size)}{between or f' on {load.phase}'}{use}; "
-                              f"vn is in cV and {rule}"))
+            found.append(Note(load.line, f"vn is {volts(load.vn)}, {has}{use}; vn is in cV and {rule}"))
+        elif not size and load.kind == "P" and (load.p or load.q):
+            found.append(Note(load.line, f"{has}: a P row acts as Z there and draws nothing"))
     return found
 
 

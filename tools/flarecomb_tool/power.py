@@ -4,12 +4,8 @@ Voltages and currents are pairs (re, im) in cV and mA, powers pairs (p, q) in gr
 import math
 
 from . import equations
-from .equations import ZERO, conjugate, rounded_pair, scaled, times, total
+from .equations import ZERO, acts_as, conjugate, rounded_pair, scaled, square, times, total, weight
 from .format import GRAINS_IN_A_WATT, PHASES, load_phases
-
-
-def square(pair):
-    return pair[0] ** 2 + pair[1] ** 2
 
 
 def size(pair):
@@ -24,15 +20,15 @@ def nearest_root(number):
 
 def load_current(load, voltage):
     """The current in mA, or None where document 01 refuses with 30."""
-    return None if load.kind != "Z" and voltage == ZERO else equations.load_current(load, voltage)
+    return equations.load_current(load, voltage) if weight(load, voltage) else None
 
 
 def load_rating(load, voltage):
-    """What the row stands for at this voltage; None where its current is None."""
+    """What the row stands for at this voltage, by the kind as which it acts there; None where its current is None."""
     rating = scaled(GRAINS_IN_A_WATT, (load.p, load.q))
-    if load.kind == "P":
+    if acts_as(load, voltage) == "P":
         return rating
-    divisor = load.vn ** 2 if load.kind == "Z" else math.isqrt(square(voltage)) * load.vn
+    divisor = weight(load, voltage)
     return rounded_pair(scaled(square(voltage), rating), divisor) if divisor else None
 
 

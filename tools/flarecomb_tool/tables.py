@@ -4,7 +4,7 @@ import hashlib
 
 from . import explain, format, joined as joining, notes, power, programs
 from .equations import ZERO, plus, rounded
-from .wording import counted, decimal_text
+from .wording import counted, decimal_text, per_cent_of_rated
 
 CHECK = "archive check"  # the label of the check's answer
 
@@ -117,12 +117,14 @@ def device_table(joined):
 def load_table(joined):
     columns = [Column("feeder", name, "", True) for name in ("node", "phase", "kind")]
     columns += [Column("feeder", "vn", "V"), Column("feeder", "p", "kW"), Column("feeder", "q", "kvar"), Column("report", "V", "V"),
-                Column("report", "I", "A"), Column("report", "angle", "deg"), Column("report", "drawn_p", "kW"), Column("report", "drawn_q", "kvar")]
+                Column("report", "V", "% of vn"), Column("report", "acts_as", "", True), Column("report", "I", "A"), Column("report", "angle", "deg"),
+                Column("report", "drawn_p", "kW"), Column("report", "drawn_q", "kvar")]
     rows = []
     for flow in joined.loads:
         load = flow.load
+        # The kind as which a load acts is said where it is not its own: of a load of kind P below 70 per cent of vn.
         row = [load.node, load.phase, load.kind, decimal_text(load.vn, 2, 2), kilowatts_of_watts(load.p), kilowatts_of_watts(load.q),
-               volts(flow.voltage)]
+               volts(flow.voltage), per_cent_of_rated(load, flow.voltage), flow.acts_as if flow.acts_as != load.kind else None]
         if flow.current is None:
             row += [None] * 4
         else:
@@ -147,7 +149,7 @@ def account_table(joined):
     columns = [Column("report", "account", "", True), Column("report", "p", "grains"), Column("report", "q", "grains")]
     account = joined.account()
     if account is None:
-        rows = [["not defined: a load of kind P or I stands at zero voltage", None, None]]
+        rows = [["not defined: a load of kind I stands at zero voltage", None, None]]
     else:
         rows = [[label, str(pair[0]), str(pair[1])] for label, pair in (
             ("the source gives", account.source),

@@ -1,7 +1,8 @@
 """Bytes, lists and amounts put into words."""
+import math
 import unicodedata
 
-from .equations import rounded
+from .equations import rounded, square
 from .format import is_between
 
 LONGEST_QUOTE = 200
@@ -83,6 +84,11 @@ def decimal_text(number, unit_exponent, places):
     digits = str(abs(whole)).rjust(places + 1, "0")
     sign = "-" if whole < 0 else ""
     return sign + (f"{digits[:-places]}.{digits[-places:]}" if places else digits)
+
+
+def per_cent_of_rated(load, voltage):
+    """The load's voltage in per cent of its vn. What is behind the second decimal is left out, so that less than 70 is not shown as 70.00."""
+    return decimal_text(math.isqrt(10**8 * square(voltage) // load.vn**2), 2, 2)
 
 
 def volts(centivolts):

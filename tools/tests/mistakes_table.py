@@ -196,7 +196,7 @@ MISTAKES = (
     )),
     Mistake("delta_load_between_equal_phases", None, 30, 1, (
         "the feeder:",
-        "The load in line 13 (node N1, phase AB, kind I, p 50000 W, q 10000 var) has voltage 0: a load of kind P or I has no current there.",
+        "The load in line 13 (node N1, phase AB, kind I, p 50000 W, q 10000 var) has voltage 0: a load of kind I has no current there.",
         "The source (line 2) has the same voltage on A and B.",
     )),
     Mistake("delta_load_vn_in_volts", None, 31, 1, (
@@ -472,7 +472,7 @@ MISTAKES = (
         "the feeder, line 13:",
         "    N1,A,P,0,50000,10000",
         "Column vn (rated voltage to ground) has 0, that is 0 V: the limit is 1 to 2000000 in cV (0.01 V).",
-        "vn must be given for kind P too, where it is not used.",
+        "vn must be given for kind P too: below 70 per cent of it the load acts as Z.",
     )),
     Mistake("power_in_grains", None, 11, 10, (
         "the feeder, line 10:",
@@ -634,14 +634,19 @@ MISTAKES = (
     )),
     Mistake("phase_without_source_voltage", None, 30, 1, (
         "the feeder:",
-        "The load in line 11 (node N2, phase B, kind I, p 80000 W, q 20000 var) has voltage 0: a load of kind P or I has no current there.",
+        "The load in line 11 (node N2, phase B, kind I, p 80000 W, q 20000 var) has voltage 0: a load of kind I has no current there.",
         "The source (line 2) has 0 on phase B.",
     )),
     Mistake("equal_phases_above_delta", None, 30, 1, (
         "the feeder:",
-        "The load in line 8 (node N1, phase A, kind P, p 120000 W, q 40000 var) has voltage 0: a load of kind P or I has no current there.",
+        "The load in line 8 (node N1, phase A, kind I, p 120000 W, q 40000 var) has voltage 0: a load of kind I has no current there.",
         "Line 5 is a delta transformer: it gives 0 where two of the voltages above it are equal.",
         "The source (line 2) has 7200.00 V on A, 7200.00 V on B and 7200.00 V on C.",
+    )),
+    Mistake("power_load_at_zero_voltage", None, 0, 0, (
+        "The report is made. Please look at:",
+        "Line 2: the source's phases are not 120 degrees apart (A 0.0, B 0.0 and C 0.0 degrees); the columns are real and imaginary parts, not size and angle.",
+        "Line 8: its node N1 has 0.00 V on A: a P row acts as Z there and draws nothing.",
     )),
     Mistake("rated_voltage_in_volts", None, 31, 1, (
         "the feeder:",
@@ -652,12 +657,22 @@ MISTAKES = (
     )),
     Mistake("more_power_than_the_line_carries", None, 34, 20, (
         "the feeder:",
-        "In sweep 20, the last that is allowed, phase A of node N3 still moved by 272936 cV; tol is 1.",
-        "More sweeps do not help: sweep 21 would be refused with 33.",
-        "No tol up to 1000 settles it: a load is near or beyond the most that the branches above it can carry.",
+        "In sweep 20, the last that is allowed, phase A of node N3 still moved by 121418 cV; tol is 1.",
+        "It does not settle in 100 sweeps, the most that may be made.",
+        "The load in line 10 (node N3, phase A, kind P, p 120000 W, q 40000 var) goes to and fro across 70 per cent of vn, below which it acts as Z: it has 63.77 per cent in sweep 99 and 78.75 per cent in sweep 100.",
+        "No tol up to 1000 settles it: as P the load draws so much that its voltage falls below 70 per cent, as Z so little that it rises above.",
+        "Look at why the voltage is so low: impedances, loads, taps and vn. Where a motor is known to run below 70 per cent, write the row as Z: the study then takes 10 sweeps, and line 10 has 76.24 per cent of vn.",
         "The largest impedance on its way is that of line 7 (N2,N3): r 90 ohm and x 90 ohm on phase A.",
     )),
-    Mistake("load_beyond_the_line", None, 31, 38, (
+    Mistake("load_beyond_the_line", None, 34, 100, (
+        "the feeder:",
+        "In sweep 100, the last that is allowed, phase A of node N1 still moved by 112912 cV; tol is 1.",
+        "The load in line 8 (node N1, phase A, kind P, p 720000 W, q 0 var) goes to and fro across 70 per cent of vn, below which it acts as Z: it has 65.98 per cent in sweep 99 and 81.67 per cent in sweep 100.",
+        "No tol up to 1000 settles it: as P the load draws so much that its voltage falls below 70 per cent, as Z so little that it rises above.",
+        "Look at why the voltage is so low: impedances, loads, taps and vn. Where a motor is known to run below 70 per cent, write the row as Z: the study then takes 11 sweeps, and line 8 has 78.26 per cent of vn.",
+        "The largest impedance on its way is that of line 5 (S,N1): r 20 ohm and x 0 ohm on phase A.",
+    )),
+    Mistake("load_beyond_the_line_with_low_vn", None, 31, 38, (
         "the feeder:",
         "The load in line 8 (node N1, phase A, kind P, p 720000 W, q 0 var) takes 3495.485 A and 0.000 A (re and im): the limit is 2000.000 A for each.",
         "Its voltage is 205.98 V.",
@@ -695,6 +710,14 @@ MISTAKES = (
     )),
     Mistake("load_near_the_most", None, 34, 100, (
         "the feeder:",
+        "In sweep 100, the last that is allowed, phase A of node N1 still moved by 98480 cV; tol is 1.",
+        "The load in line 8 (node N1, phase A, kind P, p 259000 W, q 0 var) goes to and fro across 70 per cent of vn, below which it acts as Z: it has 64.42 per cent in sweep 99 and 83.90 per cent in sweep 100.",
+        "No tol up to 1000 settles it: as P the load draws so much that its voltage falls below 70 per cent, as Z so little that it rises above.",
+        "Look at why the voltage is so low: impedances, loads, taps and vn. Where a motor is known to run below 70 per cent, write the row as Z: the study then takes 9 sweeps, and line 8 has 80.01 per cent of vn.",
+        "The largest impedance on its way is that of line 5 (S,N1): r 50 ohm and x 0 ohm on phase A.",
+    )),
+    Mistake("load_near_the_most_with_low_vn", None, 34, 100, (
+        "the feeder:",
         "In sweep 100, the last that is allowed, phase A of node N1 still moved by 5 cV; tol is 1.",
         "With tol 5 it ends in sweep 90.",
     )),
@@ -702,6 +725,13 @@ MISTAKES = (
         "the feeder:",
         "In sweep 20, the last that is allowed, phase A of node N1 still moved by 349475 cV; tol is 1.",
         "It does not settle in 100 sweeps, the most that may be made.",
+        "No tol up to 1000 settles it: a load is near or beyond the most that the branches above it can carry.",
+        "The largest impedance on its way is that of line 5 (S,N1): r 50 ohm and x 0 ohm on phase A.",
+    )),
+    Mistake("one_sweep_below_line_impedance", None, 34, 1, (
+        "the feeder:",
+        "In sweep 1, the last that is allowed, phase A of node N1 still moved by 2083335 cV; tol is 1.",
+        "More sweeps do not help: sweep 2 would be refused with 33.",
         "No tol up to 1000 settles it: a load is near or beyond the most that the branches above it can carry.",
         "The largest impedance on its way is that of line 5 (S,N1): r 50 ohm and x 0 ohm on phase A.",
     )),
@@ -713,10 +743,14 @@ MISTAKES = (
         "The report is made. Please look at:",
         "Line 12: vn is 12470.00 V, its node N1 has 7203.81 V on C; vn is in cV and to ground.",
     )),
+    Mistake("rated_voltage_of_a_power_load_between_lines", None, 0, 0, (
+        "The report is made. Please look at:",
+        "Line 13: vn is 12470.77 V, its node N1 has 7188.41 V on A, 57.64 per cent of vn: below 70 per cent a P row acts as Z; vn is in cV and to ground.",
+    )),
     Mistake("rated_voltage_of_power_loads_in_volts", None, 0, 0, (
         "The report is made. Please look at:",
-        "Line 10: vn is 72.00 V, its node N3 has 7041.68 V on A (vn is not used in a P row); vn is in cV and to ground.",
-        "Line 13: vn is 72.00 V, its node N1 has 7186.45 V on A (vn is not used in a P row); vn is in cV and to ground.",
+        "Line 10: vn is 72.00 V, its node N3 has 7041.68 V on A (a P row uses vn only below 70 per cent of it, where it acts as Z); vn is in cV and to ground.",
+        "Line 13: vn is 72.00 V, its node N1 has 7186.45 V on A (a P row uses vn only below 70 per cent of it, where it acts as Z); vn is in cV and to ground.",
     )),
     Mistake("source_as_size_and_angle", None, 0, 0, (
         "The report is made. Please look at:",
@@ -744,18 +778,18 @@ MISTAKES = (
     )),
     Mistake("eight_loads_with_vn_in_volts", None, 0, 0, (
         "The report is made. Please look at:",
-        "Line 13: vn is 72.00 V, its node N1 has 7167.50 V on A (vn is not used in a P row); vn is in cV and to ground.",
-        "Line 14: vn is 72.00 V, its node N1 has 7167.50 V on A (vn is not used in a P row); vn is in cV and to ground.",
-        "Line 15: vn is 72.00 V, its node N1 has 7167.50 V on A (vn is not used in a P row); vn is in cV and to ground.",
-        "Line 16: vn is 72.00 V, its node N1 has 7167.50 V on A (vn is not used in a P row); vn is in cV and to ground.",
-        "Line 17: vn is 72.00 V, its node N1 has 7167.50 V on A (vn is not used in a P row); vn is in cV and to ground.",
-        "Line 18: vn is 72.00 V, its node N1 has 7167.50 V on A (vn is not used in a P row); vn is in cV and to ground.",
+        "Line 13: vn is 72.00 V, its node N1 has 7167.50 V on A (a P row uses vn only below 70 per cent of it, where it acts as Z); vn is in cV and to ground.",
+        "Line 14: vn is 72.00 V, its node N1 has 7167.50 V on A (a P row uses vn only below 70 per cent of it, where it acts as Z); vn is in cV and to ground.",
+        "Line 15: vn is 72.00 V, its node N1 has 7167.50 V on A (a P row uses vn only below 70 per cent of it, where it acts as Z); vn is in cV and to ground.",
+        "Line 16: vn is 72.00 V, its node N1 has 7167.50 V on A (a P row uses vn only below 70 per cent of it, where it acts as Z); vn is in cV and to ground.",
+        "Line 17: vn is 72.00 V, its node N1 has 7167.50 V on A (a P row uses vn only below 70 per cent of it, where it acts as Z); vn is in cV and to ground.",
+        "Line 18: vn is 72.00 V, its node N1 has 7167.50 V on A (a P row uses vn only below 70 per cent of it, where it acts as Z); vn is in cV and to ground.",
         "Likewise lines 19 and 20.",
     )),
-    Mistake("source_and_some_vn_in_volts", None, 32, 1, (
+    Mistake("source_and_some_vn_in_volts", None, 31, 2, (
         "the feeder:",
-        "The branch in line 5 (S,N1) has 2361.225 A and -694.483 A (re and im) on phase A at N1: the limit is 2000.000 A for each.",
-        "Behind it stand 4 load rows with 250000 W and -30000 var in all.",
+        "The load in line 12 (node N1, phase C, kind Z, p 0 W, q -100000 var) takes -25180.556 A and -4758.681 A (re and im): the limit is 2000.000 A for each.",
+        "Its voltage is 1328.47 V, its rated voltage vn 72.00 V.",
         "The source (line 2) has 72.00 V on A, 72.00 V on B and 72.00 V on C. Voltages are in cV: if 7200 V is meant, it is 720000. The same holds for vn in lines 11 and 12.",
     )),
     Mistake("all_vn_in_volts", None, 31, 1, (
@@ -765,16 +799,19 @@ MISTAKES = (
         "vn is in cV: if 7200 V is meant, it is 720000. The same holds for vn in lines 10, 11 and 13.",
         "The source (line 2) has 7200.00 V on A, 7200.00 V on B and 7200.00 V on C.",
     )),
-    Mistake("source_in_kilovolts", None, 31, 1, (
+    Mistake("source_in_kilovolts", None, 34, 20, (
         "the feeder:",
-        "The load in line 10 (node N3, phase A, kind P, p 120000 W, q 40000 var) takes 16973.126 A and -5657.709 A (re and im): the limit is 2000.000 A for each.",
-        "Its voltage is 7.07 V.",
+        "In sweep 20, the last that is allowed, phase B of node N2 still moved by 637 cV; tol is 1.",
         "The source (line 2) has 7.20 V on A, 7.20 V on B and 7.20 V on C. Voltages are in cV: by vn of the loads it has about 7200.00 V, that is 720000: each of its six values is then 1000 times as large.",
     )),
-    Mistake("one_source_phase_in_volts", None, 31, 1, (
+    Mistake("one_source_phase_in_volts", None, 0, 0, (
+        "The report is made. Please look at:",
+        "Line 2: the source has 0.72 V on C; voltages are in cV (0.01 V): 72 V is 7200.",
+        "Line 12: vn is 7200.00 V, its node N1 has 6.20 V on C, 0.08 per cent of vn: below 70 per cent a P row acts as Z; vn is in cV and to ground.",
+    )),
+    Mistake("one_source_phase_in_volts_and_two_sweeps", None, 34, 2, (
         "the feeder:",
-        "The load in line 12 (node N1, phase C, kind P, p 0 W, q -100000 var) takes -120622.568 A and -70038.911 A (re and im): the limit is 2000.000 A for each.",
-        "Its voltage is 0.72 V.",
+        "In sweep 2, the last that is allowed, phase A of node N3 still moved by 13 cV; tol is 1.",
         "The source (line 2) has 7200.00 V on A, 7200.00 V on B and 0.72 V on C. They differ by a factor of 10000; voltages are in cV (0.01 V). By vn of the loads each has about 7200.00 V: that is 720000.",
     )),
     Mistake("rated_voltage_in_kilovolts", None, 31, 1, (
@@ -791,9 +828,16 @@ MISTAKES = (
         "vn is in cV: the 7200.00 V of its node are 720000.",
         "The source (line 2) has 7200.00 V on A, 7200.00 V on B and 7200.00 V on C.",
     )),
-    Mistake("source_of_480_volts", None, 34, 20, (
+    Mistake("source_of_480_volts", None, 0, 0, (
+        "The report is made. Please look at:",
+        "Line 10: vn is 7200.00 V, its node N3 has 467.99 V on A, 6.49 per cent of vn: below 70 per cent a P row acts as Z; vn is in cV and to ground.",
+        "Line 11: vn is 7200.00 V, its node N2 has 487.30 V on B; vn is in cV and to ground.",
+        "Line 12: vn is 7200.00 V, its node N1 has 483.88 V on C; vn is in cV and to ground.",
+        "Line 13: vn is 7200.00 V, its node N1 has 477.58 V on A, 6.63 per cent of vn: below 70 per cent a P row acts as Z; vn is in cV and to ground.",
+    )),
+    Mistake("source_of_480_volts_and_two_sweeps", None, 34, 2, (
         "the feeder:",
-        "In sweep 20, the last that is allowed, phase A of node N3 still moved by 86255 cV; tol is 1.",
+        "In sweep 2, the last that is allowed, phase B of node N1 still moved by 11 cV; tol is 1.",
         "The source (line 2) has 480.00 V on A, 480.00 V on B and 480.00 V on C. Voltages are in cV: by vn of the loads it has about 7200.00 V, that is 720000.",
     )),
     Mistake("rated_voltages_low_behind_a_line", None, 32, 1, (
@@ -803,15 +847,17 @@ MISTAKES = (
         "vn in line 11 is 72.00 V, its node N2 has 7200.00 V without load. vn is in cV: if 7200 V is meant, it is 720000. The same holds for vn in lines 12 and 13.",
         "The source (line 2) has 7200.00 V on A, 7200.00 V on B and 7200.00 V on C.",
     )),
-    Mistake("source_alone_in_volts", None, 32, 1, (
-        "the feeder:",
-        "The branch in line 5 (S,N1) has 2361.225 A and -694.483 A (re and im) on phase A at N1: the limit is 2000.000 A for each.",
-        "Behind it stand 4 load rows with 250000 W and -30000 var in all.",
-        "The source (line 2) has 72.00 V on A, 72.00 V on B and 72.00 V on C. Voltages are in cV: by vn of the loads it has about 7200.00 V, that is 720000: each of its six values is then 100 times as large.",
+    Mistake("source_alone_in_volts", None, 0, 0, (
+        "The report is made. Please look at:",
+        "Line 2: the source has 72.00 V on A, 72.00 V on B and 72.00 V on C; voltages are in cV (0.01 V): 7200 V is 720000.",
+        "Line 10: vn is 7200.00 V, its node N3 has 69.12 V on A, 0.96 per cent of vn: below 70 per cent a P row acts as Z; vn is in cV and to ground.",
+        "Line 11: vn is 7200.00 V, its node N2 has 68.38 V on B; vn is in cV and to ground.",
+        "Line 12: vn is 7200.00 V, its node N1 has 75.52 V on C; vn is in cV and to ground.",
+        "Line 13: vn is 7200.00 V, its node N1 has 70.54 V on A, 0.97 per cent of vn: below 70 per cent a P row acts as Z; vn is in cV and to ground.",
     )),
     Mistake("voltages_in_volts_that_do_not_settle", None, 34, 20, (
         "the feeder:",
-        "In sweep 20, the last that is allowed, phase A of node N3 still moved by 6826 cV; tol is 1.",
+        "In sweep 20, the last that is allowed, phase A of node N3 still moved by 6294 cV; tol is 1.",
         "The source (line 2) has 72.00 V on A, 72.00 V on B and 72.00 V on C. Voltages are in cV: if 7200 V is meant, it is 720000. The same holds for vn in lines 10 to 13.",
     )),
     Mistake("thousands_point", None, 10, 10, (
@@ -1225,18 +1271,18 @@ MISTAKES = (
     )),
     Mistake("sound", "zero_voltage_at_load", 30, 0, (
         "the report:",
-        "The load in line 10 (node N3, phase A, kind P, p 120000 W, q 40000 var) has voltage 0: a load of kind P or I has no current there.",
-        "The report has 0 for phase A of node N3.",
+        "The load in line 11 (node N2, phase B, kind I, p 80000 W, q 20000 var) has voltage 0: a load of kind I has no current there.",
+        "The report has 0 for phase B of node N2.",
     )),
-    Mistake("sound", "tiny_voltage_at_load", 31, 0, (
+    Mistake("rated_voltage_in_volts", "sound", 31, 0, (
         "the report:",
-        "The load in line 10 (node N3, phase A, kind P, p 120000 W, q 40000 var) takes 12000000.000 A and -4000000.000 A (re and im): the limit is 2000.000 A for each.",
-        "Its voltage is 0.01 V.",
+        "The load in line 12 (node N1, phase C, kind Z, p 0 W, q -100000 var) takes -120420.718 A and -69564.429 A (re and im): the limit is 2000.000 A for each.",
+        "Its voltage is 7209.37 V, its rated voltage vn 72.00 V.",
     )),
-    Mistake("sound", "low_voltage_at_loads", 32, 0, (
+    Mistake("rated_voltages_low_behind_a_line", "sound", 32, 0, (
         "the report:",
-        "The branch in line 5 (S,N1) has 3527.968 A and -1253.743 A (re and im) on phase A at N1: the limit is 2000.000 A for each.",
-        "Behind it stand 4 load rows with 250000 W and -30000 var in all.",
+        "The branch in line 5 (S,N1) has -1931.266 A and -2766.457 A (re and im) on phase B at N1: the limit is 2000.000 A for each.",
+        "Behind it stand 5 load rows with 410000 W and 70003 var in all.",
     )),
     Mistake("sound", "current_edited", 53, 9, (
         "the report, line 9:",
@@ -1250,6 +1296,13 @@ MISTAKES = (
         "Column ia_re (real part of the current of A) has 23674: the loads at the reported voltages make it 23662.",
         "Column ia_im (imaginary part of the current of A) has -7005: the loads at the reported voltages make it -7001.",
         "Only line 5 differs from the feeder's own report. There it has: N3,704167,-1407,0,0,0,0",
+    )),
+    Mistake("sound", "low_voltage_at_loads", 53, 8, (
+        "the report, line 8:",
+        "    S,N1,23674,-7005,-8176,-8434,-12042,-6956,23952492,45363661",
+        "Column ia_re (real part of the current of A) has 23674: the loads at the reported voltages make it 164.",
+        "Column ia_im (imaginary part of the current of A) has -7005: the loads at the reported voltages make it -56.",
+        "Only lines 3 and 5 differ from the feeder's own report: the report was edited, or the feeder was changed since.",
     )),
     Mistake("sound", "voltage_edited", 54, 4, (
         "the report, line 4:",
@@ -1285,6 +1338,14 @@ MISTAKES = (
         "Column ia_re (real part of the current of A) has 23674: the loads at the reported voltages make it 25067.",
         "Column ia_im (imaginary part of the current of A) has -7005: the loads at the reported voltages make it -7008.",
         "7 of its 13 lines differ from the feeder's own report: the report belongs to another feeder, or the feeder was changed since.",
+    )),
+    Mistake("rated_voltage_of_a_power_load_between_lines", "sound", 53, 8, (
+        "the report, line 8:",
+        "    S,N1,23674,-7005,-8176,-8434,-12042,-6956,23952492,45363661",
+        "Column ia_re (real part of the current of A) has 23674: the loads at the reported voltages make it 19027.",
+        "Column ia_im (imaginary part of the current of A) has -7005: the loads at the reported voltages make it -6073.",
+        "The report may be older than version 0.4.0: with constant power at every voltage, as before it, all values agree.",
+        "From that version on a P row acts as Z below 70 per cent of its vn, as here in line 13 of the feeder. Study the feeder again.",
     )),
     Mistake("line_changed_since", "line_changed_since", 54, 5, (
         "the report, line 5:",

@@ -72,9 +72,9 @@ class BetweenPhases(unittest.TestCase):
             self.assertEqual(current, equations.load_current(load, equations.load_voltage(load, self.VOLTAGES)))
 
     def test_zero_voltage_is_that_of_the_difference(self):
-        for kind, found in (("P", (30, "AB")), ("I", (30, "AB")), ("Z", None)):
+        for kind, found in (("P", None), ("I", (30, "AB")), ("Z", None)):
             self.assertEqual(found, self.trouble([(600000, 5), (600000, 5), (1, 1)], f"S,AB,{kind},1200000,0,0"))
-        self.assertIsNone(self.trouble([(0, 0), (600000, 0), (0, 0)], "S,AB,P,1200000,0,0"))
+        self.assertIsNone(self.trouble([(0, 0), (600000, 0), (0, 0)], "S,AB,I,1200000,0,0"))
 
     def test_the_limit_is_that_of_the_one_current(self):
         """On A the currents of both rows cancel; each is looked at before that."""
@@ -92,6 +92,86 @@ class BetweenPhases(unittest.TestCase):
             "from,to,ia_re,ia_im,ib_re,ib_im,ic_re,ic_im,loss_p,loss_q", "S,N1,1000,0,-1000,0,0,0,200000,0", "",
             "sweeps,source_p,source_q,drawn_p,drawn_q,lost_p,lost_q", "2,1200000000,0,1199800000,0,200000,0",
         ], equations.report_lines(feeder, equations.study(feeder)))
+
+
+class LowVoltage(unittest.TestCase):
+    """Loads of kind P below 70 per cent of vn."""
+
+    def load(self, kind, vn=720000, phase="A", p=720, q=0):
+        return Load(8, "S", phase, kind, vn, p, q)
+
+    def test_at_70_per_cent_and_below(self):
+        # 302400 and 403200 are 3 and 4 fifths of 504000, which is 70 per cent of 720000.
+        for voltage, kind in (
+            ((504000, 0), "P"), ((503999, 0), "Z"), ((0, -504000), "P"), ((0, -503999), "Z"), ((302400, 403200), "P"), ((302400, 403199), "Z"),
+            ((302399, 403200), "Z"), ((-302400, -403201), "P"), ((720000, 0), "P"), ((1, 0), "Z"), ((0, 0), "Z"),
+        ):
+            self.assertEqual(kind, equations.acts_as(self.load("P"), voltage), voltage)
+            for other in "IZ":
+                self.assertEqual(other, equations.acts_as(self.load(other), voltage))
+
+    def test_least_and_greatest_rated_voltage(self):
+        # 100 is not below 49, and no voltage but 0 is low at a vn of 1.
+        self.assertEqual(["Z", "P"], [equations.acts_as(self.load("P", 1), voltage) for voltage in ((0, 0), (0, -1))])
+        self.assertEqual(["Z", "P"], [equations.acts_as(self.load("P", 4000000, "AB"), voltage) for voltage in ((2799999, 0), (2800000, 0))])
+
+    def test_currents(self):
+        # 72000000 / 504000 is 142.86, and 72000000·503999 / 720000² is 69.99986.
+        self.assertEqual([(143, 0), (70, 0), (0, 0)], [equations.load_current(self.load("P"), (size, 0)) for size in (504000, 503999, 0)])
+        # 720 W and 360 var with the voltage on the imaginary axis
+        self.assertEqual([(71, 143), (35, 70)], [equations.load_current(self.load("P", q=360), (0, size)) for size in (504000, 503999)])
+
+    def test_current_is_that_of_the_kind_as_which_it_acts(self):
+        chance = random.Random(6)
+        low = 0
+        for _ in range(400):
+            voltage = (chance.randint(-1000000, 1000000), chance.randint(-1000000, 1000000))
+            load = self.load("P", chance.randint(1, 2000000), "A", chance.randint(-3000000, 3000000), chance.randint(-3000000, 3000000))
+            is_low = (10 * abs(complex(*voltage))) < 7 * load.vn
+            low += is_low
+            self.assertEqual(is_low, equations.is_low(load, voltage))
+            divisor = load.vn**2 if is_low else equations.square(voltage)
+            self.assertEqual(equations.rounded_pair(equations.scaled(100000, equations.times((load.p, -load.q), voltage)), divisor),
+                             equations.load_current(load, voltage))
+        self.assertGreater(low, 100)
+        self.assertLess(low, 300)
+
+    def test_between_two_phases_the_difference_counts(self):
+        """70 per cent of 2000000 is 1400000: 700000 less -700000."""
+        load = self.load("P", 2000000, "AB")
+        for voltages, kind in (([(700000, 0), (-700000, 0), (0, 0)], "P"), ([(700000, 0), (-699999, 0), (0, 0)], "Z"),
+                               ([(1999999, 0), (600000, 0), (0, 0)], "Z"), ([(0, 0), (0, 1400000), (9, 9)], "P")):
+            self.assertEqual(kind, equations.acts_as(load, equations.load_voltage(load, voltages)))
+
+    def test_zero_voltage(self):
+        for phase in ("A", "AB"):
+            for kind, number in (("P", None), ("I", 30), ("Z", None)):
+                feeder = read_feeder(feeder_text("S,0,0,0,0,0,0,1,20", [], [f"S,{phase},{kind},720000,720,0"]).encode())
+                for sweep in (0, 1):
+                    trouble = equations.currents_at(feeder, {"S": [(0, 0)] * 3}, sweep)[2]
+                    self.assertEqual(number, trouble and trouble.number)
+                self.assertEqual(number, equations.study(feeder).trouble and equations.study(feeder).trouble.number)
+
+    def settled(self, *loads):
+        """The study of these loads behind 10 ohm, which settles."""
+        branch = line_row("S", "N1", "A", [10000000])
+        feeder = read_feeder(feeder_text("S,720000,0,0,0,0,0,1,50", [branch], loads).encode())
+        studied = equations.study(feeder)
+        self.assertIsNone(studied.trouble)
+        return feeder, studied
+
+    def test_picked_anew_in_each_sweep(self):
+        """7200 V are 72 per cent of vn; the drop brings it below 70, where it stays."""
+        feeder, studied = self.settled("N1,A,P,1000000,400000,0")
+        kinds = [equations.acts_as(feeder.loads[0], voltages["N1"][0]) for voltages in studied.used]
+        self.assertEqual((len(kinds), kinds[0], set(kinds[1:])), (studied.sweeps, "P", {"Z"}))
+        # V0 is 720000. Sweep 1 takes 400 kW at 7200 V, 55556 mA, which drop 55556 cV: 664444, 66.4 per cent. Sweep 2 takes 664444/1000000² of
+        # 4·10^10 grains, 26578 mA.
+        self.assertEqual([720000, 664444, 720000 - 26578], [voltages["N1"][0][0] for voltages in studied.used[:3]])
+
+    def test_a_report_below_70_per_cent_is_that_of_a_z_row(self):
+        (power, as_power), (impedance, as_impedance) = (self.settled(f"N1,A,{kind},1100000,400000,100000") for kind in "PZ")
+        self.assertEqual(equations.report_lines(power, as_power), equations.report_lines(impedance, as_impedance))
 
 
 class Reports(unittest.TestCase):

@@ -150,6 +150,142 @@ class Advice(unittest.TestCase):
             self.assertEqual(match[1] or match[3], written.split("\n")[-2].split(",")[0], mistake.feeder)
 
 
+    def test_power_loads_as_impedances(self):
+        """With the load that goes to and fro across 70 per cent of vn as Z there is a report of so many sweeps."""
+        pattern = r"The load in line (\d+) [^\n]* goes to and fro [^\n]*\n(?:[^\n]*\n)*[^\n]* as Z: the study then takes (\d+) sweeps"
+        for data, mistake, match in self.advised(pattern):
+            lines = data.decode().split("\n")
+            row = lines[int(match[1]) - 1]
+            lines[int(match[1]) - 1] = row.replace(",P,", ",Z,")
+            written = self.study("\n".join(lines).encode())
+            self.assertEqual(match[2], written.split("\n")[-2].split(",")[0], mistake.feeder)
+
+
+class LowVoltage(unittest.TestCase):
+    """Loads of kind P below 70 per cent of vn."""
+
+    SOURCE = SOURCE_ROW.replace(",1,20", ",1,100")
+
+    def line(self, to_node="N1", from_node="S", ohms=50):
+        return line_row(from_node, to_node, "A", [ohms * 1000000])
+
+    def refused(self, *loads, branches=None, source=SOURCE):
+        """The sentences on a feeder that meets 34 by the equations."""
+        feeder = feeder_text(source, branches or [self.line()], loads).encode()
+        trouble = equations.study(read_feeder(feeder)).trouble
+        self.assertEqual(34, trouble and trouble.number)
+        return explain.study_refusal(feeder, 34, trouble.sweep).split("\n")[1:]
+
+    def test_a_sound_feeder_that_steps_to_and_fro(self):
+        """By constant power alone it would settle at 4580 V, 63.6 per cent; as an impedance of 216 ohm behind 50 the load has 81.2."""
+        said = self.refused("N1,A,P,720000,240000,0")
+        self.assertEqual([
+            "The load in line 8 (node N1, phase A, kind P, p 240000 W, q 0 var) goes to and fro across 70 per cent of vn, below which it acts as Z: "
+            "it has 68.08 per cent in sweep 99 and 84.24 per cent in sweep 100.",
+        ], said[1:2])
+        self.assertRegex(said[2], "^No tol up to 1000 settles it: as P the load draws so much")
+        self.assertRegex(said[3], r"write the row as Z: the study then takes \d+ sweeps, and line 8 has 81\.20 per cent of vn\.$")
+        self.assertEqual("The largest impedance on its way is that of line 5 (S,N1): r 50 ohm and x 0 ohm on phase A.", said[4])
+
+    def test_several_loads(self):
+        load = "N1,A,P,720000,120000,0"
+        for more, words in ((1, " So does the load in line 9."), (3, " So do the loads in lines 9 to 11.")):
+            said = self.refused(*[f"N1,A,P,720000,{240000 // (more + 1)},{place}" for place in range(more + 1)])
+            self.assertTrue(said[1].endswith(words), said)
+            self.assertIn("write these rows as Z", said[3])
+        # a load at the source stays at 100 per cent
+        self.assertNotIn("So do", self.refused("N1,A,P,720000,240000,0", load.replace("N1", "S"))[1])
+
+    def test_between_two_phases(self):
+        branch = line_row("S", "N1", "AB", [50000000, 0, 0, 0, 0, 0, 50000000, 0])
+        said = self.refused("N1,AB,P,1247077,350000,0", branches=[branch])
+        self.assertRegex(said[1], r"^The load in line 8 \(node N1, phase AB, .* goes to and fro across 70 per cent of vn")
+
+    def test_a_tol_that_ends_it(self):
+        """The load draws 1 A through 10 ohm as P and half of that as Z; 70 per cent of vn lies between 7190 V and 7195 V."""
+        said = self.refused("N1,A,P,1027571,7200,0", branches=[self.line(ohms=10)])
+        self.assertTrue(said[1].endswith("it has 70.02 per cent in sweep 99 and 69.97 per cent in sweep 100."), said)
+        self.assertRegex(said[2], r"^With tol \d+ it ends in sweep \d+\.$")
+        tol, sweep = re.findall(r"\d+", said[2])
+        feeder = feeder_text(SOURCE_ROW.replace(",1,20", f",{tol},{sweep}"), [self.line(ohms=10)], ["N1,A,P,1027571,7200,0"]).encode()
+        self.assertIsNone(equations.study(read_feeder(feeder)).trouble)
+
+    def test_a_load_that_others_take_to_and_fro(self):
+        """The Z load of 50 ohm behind 50 ohm does not settle by itself: no advice is given to write the small P load as Z."""
+        said = self.refused("N1,A,Z,720000,1036800,0", "N1,A,P,720000,1000,0")
+        self.assertIn("The load in line 9 (node N1, phase A, kind P, p 1000 W, q 0 var) goes to and fro across 70 per cent of vn", said[1])
+        self.assertEqual("No tol up to 1000 settles it: a load is near or beyond the most that the branches above it can carry.", said[2])
+        self.assertFalse([one for one in said if "write" in one])
+
+    def test_an_impedance_that_needs_a_larger_tol(self):
+        """With tol 0 the load repeats a few values as Z too; what is said to end it does so."""
+        source, load = self.SOURCE.replace(",1,100", ",0,100"), "N1,A,P,720000,300000,100000"
+        branch = line_row("S", "N1", "A", [30000000, 30000000])
+        said = self.refused(load, branches=[branch], source=source)[3]
+        match = re.search(r"as Z: the study then takes (\d+) sweeps with tol (\d+), and line 8 has ([\d.]+) per cent", said)
+        source = source.replace(",0,100", f",{match[2]},100")
+        studied = equations.study(read_feeder(feeder_text(source, [branch], [load.replace(",P,", ",Z,")]).encode()))
+        self.assertIsNone(studied.trouble)
+        self.assertEqual(int(match[1]), studied.sweeps)
+        self.assertEqual(match[3], f"{int(abs(complex(*studied.voltages['N1'][0])) / 72) / 100:.2f}")
+
+    def test_loads_that_stay_on_one_side(self):
+        for load in ("N1,A,P,100,259000,0", "N1,A,Z,720000,1000000,0"):
+            self.assertNotIn("70 per cent", "\n".join(self.refused(load)))
+
+    def test_current_beyond_its_limit_as_an_impedance(self):
+        """3 MW at 100 V; at 60 V it draws 18 kA."""
+        feeder = feeder_text("S,6000,0,0,0,0,0,1,20", [], ["S,A,P,10000,3000000,0"]).encode()
+        said = explain.study_refusal(feeder, 31, 1).split("\n")
+        self.assertEqual("Its voltage is 60.00 V, its rated voltage vn 100.00 V: below 70 per cent of vn it acts as Z.", said[2])
+
+    def older(self, feeder):
+        """The report of a feeder as it was before the rule, when a load of kind P had constant power at every voltage."""
+        read = read_feeder(feeder.encode())
+        before = read._replace(loads=[load._replace(vn=1) if load.kind == "P" else load for load in read.loads])
+        studied = equations.study(before)
+        self.assertIsNone(studied.trouble)
+        return "\n".join(equations.report_lines(before, studied)) + "\n"
+
+    MAY_BE_OLDER = "The report may be older than version 0.4.0: with constant power at every voltage, as before it, all values agree."
+    ACTS_AS_Z = "From that version on a P row acts as Z below 70 per cent of its vn, as here in"
+
+    def test_older_reports(self):
+        for source, branches, loads, number, value, said in (
+            (SOURCE_ROW, [self.line(ohms=1)], ["N1,A,P,1247077,72000,0"], 53, 6, "line 8 of the feeder. Study the feeder again."),
+            (SOURCE_ROW, [self.line(ohms=1)], ["N1,A,P,720000,72000,0", "N1,A,P,1247077,7200,0", "N1,A,Z,1247077,7200,0", "S,A,P,1247077,1,0"], 53, 6,
+             "lines 9 and 11 of the feeder. Study the feeder again."),
+            # a load at the source is in no branch's current
+            (SOURCE_ROW, [], ["S,CA,P,2160000,72000,0"], 55, 0, "line 7 of the feeder. Study the feeder again."),
+            (self.SOURCE, [self.line()], ["N1,A,P,720000,240000,0"], 53, 6, "line 8 of the feeder. The study now refuses the feeder with 34."),
+        ):
+            feeder = feeder_text(source, branches, loads)
+            text = explain.check_refusal(feeder.encode(), self.older(feeder).encode(), number, value)
+            self.assertEqual([self.MAY_BE_OLDER, f"{self.ACTS_AS_Z} {said}"], text.split("\n")[-2:])
+            self.assertNotIn("belongs to another feeder", text)
+
+    def test_reports_that_are_not_older(self):
+        feeder = feeder_text(SOURCE_ROW, [self.line(ohms=1)], ["N1,A,P,1247077,72000,0"])
+        older, now = self.older(feeder), worked_report(feeder)
+        lines = older.split("\n")
+        for report, number, value in (
+            # a report of this version, and an older one, each with an edit
+            (now.replace("S,N1,3", "S,N1,4"), 53, 6),
+            ("\n".join(lines[:5] + [lines[5].replace("S,N1,1", "S,N1,2")] + lines[6:]), 53, 6),
+            (older.replace("\n2,7210080000,", "\n2,7210080001,"), 53, 6),
+            ("\n".join(lines[:2] + ["N1,710000,0,0,0,0,0"] + lines[3:]), 53, 6),
+        ):
+            self.assertNotIn(report, (older, now))
+            text = explain.check_refusal(feeder.encode(), report.encode(), number, value)
+            self.assertNotIn("0.4.0", text)
+            self.assertNotIn(explain.RULES[number], text)
+
+    def test_a_report_with_no_voltage_at_a_power_load_is_not_older(self):
+        """Before the rule it was refused with 30."""
+        feeder = feeder_text("S,720000,0,0,0,0,0,1,20", [], ["S,A,P,1247077,72000,0", "S,B,P,720000,72000,0"])
+        self.assertNotIn("0.4.0", explain.check_refusal(feeder.encode(), self.older(feeder).encode(), 55, 0))
+
+
 class BetweenPhases(unittest.TestCase):
     """Loads whose phase is AB, BC or CA."""
 
@@ -198,30 +334,31 @@ class BetweenPhases(unittest.TestCase):
 
     def test_equal_phases_above_a_delta_transformer(self):
         # A of the source half-way between B and C makes A and B of the node equal.
-        said = self.refused(30, 1, "N1,AB,P,400000,72000,0", "S,0,0,300000,0,-300000,0,1,20", ["S,N1,ABC,D,3,1" + ",0" * 10])
+        said = self.refused(30, 1, "N1,AB,I,400000,72000,0", "S,0,0,300000,0,-300000,0,1,20", ["S,N1,ABC,D,3,1" + ",0" * 10])
         self.assertEqual("Line 5 is a delta transformer: it gives the same voltage on A and B here.", said[2])
 
     def test_the_largest_impedance_of_both_phases(self):
         branch = line_row("S", "N1", "AB", [10000000, 0, 0, 0, 0, 0, 40000000, 0])
-        feeder = feeder_text(SOURCE_ROW, [branch], ["N1,AB,P,1247077,880000,0"]).encode()
+        # vn is so low that the load has constant power down to 1 V
+        feeder = feeder_text(SOURCE_ROW, [branch], ["N1,AB,P,100,880000,0"]).encode()
         trouble = equations.study(read_feeder(feeder)).trouble
         self.assertEqual(31, trouble.number)
         text = explain.study_refusal(feeder, 31, trouble.sweep)
         self.assertIn("The largest impedance on its way is that of line 5 (S,N1): r 40 ohm and x 0 ohm on phase B.", text)
 
     def test_source_in_volts_by_loads_between_phases(self):
-        said = self.refused(31, 1, "N1,CA,P,1247077,900000,0", "S,720,0,-360,-623,-360,623,1,20")
+        said = self.refused(34, 1, "N1,CA,I,1247077,900000,0", "S,720,0,-360,-623,-360,623,1,1")
         self.assertIn("by vn of the loads it has about 7200.00 V, that is 720000: each of its six values is then 1000 times as large.", said[-1])
 
     def test_reports(self):
         """30, 31 and 53 of the check at voltages that were edited."""
-        feeder = feeder_text(SOURCE_ROW, [self.LINE], ["N1,AB,P,1247077,72000,0"])
-        report = worked_report(feeder).split("\n")
-        for voltages, number, value, said in (
-            ("5,7,5,7,0,0", 30, 0, "The report has the same voltage on A and B of node N1."),
-            ("5,7,5,8,0,0", 31, 0, "Its voltage is 0.01 V between A and B."),
-            ("700000,0,-360000,-623538,-360000,623538", 53, 6, "Column ia_re (real part of the current of A) has "),
+        for kind, vn, voltages, number, value, said in (
+            ("I", 1247077, "5,7,5,7,0,0", 30, 0, "The report has the same voltage on A and B of node N1."),
+            ("P", 1, "5,7,5,8,0,0", 31, 0, "Its voltage is 0.01 V between A and B."),
+            ("P", 1247077, "700000,0,-360000,-623538,-360000,623538", 53, 6, "Column ia_re (real part of the current of A) has "),
         ):
+            feeder = feeder_text(SOURCE_ROW, [self.LINE], [f"N1,AB,{kind},{vn},72000,0"])
+            report = worked_report(feeder).split("\n")
             edited = "\n".join([*report[:2], f"N1,{voltages}", *report[3:]])
             self.assertIn(said, explain.check_refusal(feeder.encode(), edited.encode(), number, value))
 

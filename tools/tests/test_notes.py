@@ -81,9 +81,31 @@ class Notes(unittest.TestCase):
             self.assert_none(loads=(f"N1,AB,Z,{vn},72000,0",))
         for vn in (720000, 990000, 1560000, 12470):
             self.assert_lines([8], "between C and A; vn is in cV and from phase to phase", loads=(f"N1,CA,I,{vn},1000,0",))
-        self.assert_lines([8], "between B and C (vn is not used in a P row); vn is in cV and from phase to phase", loads=("N1,BC,P,720000,72000,0",))
+        self.assert_lines([8], "between B and C (a P row uses vn only below 70 per cent of it, where it acts as Z); vn is in cV and from phase",
+                          loads=("N1,BC,P,720000,72000,0",))
         # a load to ground with a voltage between phases is still told
         self.assert_lines([8], "on B; vn is in cV and to ground", loads=("N1,B,Z,1247077,72000,0",))
+
+    def test_power_loads_below_70_per_cent(self):
+        """At the source, where the voltage is known: 7200 V, and 12470.76 V between two phases."""
+        low = "per cent of vn: below 70 per cent a P row acts as Z; vn is in cV and"
+        for phase, at, below in (("A", 1028571, 1028572), ("BC", 1781537, 1781538)):
+            # 70 per cent of the second is more than the voltage by less than 1 cV
+            self.assert_lines([8], f"69.99 {low}", loads=(f"S,{phase},P,{below},72000,0",))
+            self.assert_lines([], low, loads=(f"S,{phase},P,{at},72000,0",))
+            self.assert_lines([8], "a P row uses vn only below 70 per cent of it", loads=(f"S,{phase},P,{at},72000,0",))
+            for kind in "IZ":
+                self.assert_lines([], "per cent", loads=(f"S,{phase},{kind},{below},72000,0",))
+        # P rows from 80 to 125 per cent are not spoken of
+        for vn in (576001, 720000, 899999):
+            self.assert_none(loads=(f"S,A,P,{vn},72000,0",))
+
+    def test_power_loads_at_zero_voltage(self):
+        source = source_row(720000, 0, 0, 0, 0, 0)
+        self.assert_lines([9], "its node S has 0.00 V on B: a P row acts as Z there and draws nothing", source=source,
+                          loads=(LOAD, "S,B,P,720000,0,1000", "S,B,Z,720000,0,-1000", "S,B,P,720000,0,0"))
+        self.assert_lines([9], "its node S has 0.00 V between B and C: a P row acts as Z there and draws nothing", source=source,
+                          loads=(LOAD, "S,BC,P,1247077,1000,0"))
 
     def test_many_of_a_kind(self):
         found = noted(loads=[f"N1,A,P,7200,{watts},0" for watts in range(1000, 1020)])

@@ -50,15 +50,25 @@ class Equations(unittest.TestCase):
         self.assertEqual(power.load_current(self.load("I", 500000, 100, 0), (300000, 400000)), (12, 16))
         self.assertEqual(power.load_current(self.load("Z", 720000, 0, -720), (720000, 0)), (0, 100))
 
-    def test_no_current_is_defined_for_p_and_i_at_zero_voltage(self):
-        self.assertIsNone(power.load_current(self.load("P", 720000, 0, 0), (0, 0)))
-        self.assertIsNone(power.load_current(self.load("I", 720000, 1, 0), (0, 0)))
-        self.assertEqual(power.load_current(self.load("Z", 720000, 1, 0), (0, 0)), (0, 0))
+    def test_no_current_and_no_rating_are_defined_for_i_at_zero_voltage(self):
+        for kind, found in (("P", (0, 0)), ("I", None), ("Z", (0, 0))):
+            for watts in (0, 1):
+                load = self.load(kind, 720000, watts, 0)
+                self.assertEqual((power.load_current(load, (0, 0)), power.load_rating(load, (0, 0))), (found, found))
 
-    def test_ratings_at_half_the_rated_voltage(self):
-        # 1000 W at vn: a P load keeps it, an I load has half of it and a Z load a quarter.
-        at_half = {kind: power.load_rating(self.load(kind, 720000, 1000, 200), (360000, 0)) for kind in "PIZ"}
-        self.assertEqual(at_half, {"P": (100000000, 20000000), "I": (50000000, 10000000), "Z": (25000000, 5000000)})
+    def test_ratings_at_half_and_at_three_quarters_of_the_rated_voltage(self):
+        # 1600 W at vn: at three quarters a P load keeps it, an I load has three quarters of it and a Z load 9/16.
+        at_three_quarters = {kind: power.load_rating(self.load(kind, 720000, 1600, 320), (540000, 0)) for kind in "PIZ"}
+        self.assertEqual(at_three_quarters, {"P": (160000000, 32000000), "I": (120000000, 24000000), "Z": (90000000, 18000000)})
+        # At half an I load has half of it and a Z load a quarter; a P load is below 70 per cent and has what a Z load has.
+        at_half = {kind: power.load_rating(self.load(kind, 720000, 1600, 320), (360000, 0)) for kind in "PIZ"}
+        self.assertEqual(at_half, {"P": (40000000, 8000000), "I": (80000000, 16000000), "Z": (40000000, 8000000)})
+
+    def test_ratings_at_70_per_cent(self):
+        # 720 W at vn 7200 V. One cV below 5040 V they are 72000000 times (503999/720000)², that is 35279860.00 to the nearest.
+        for kind, at, below in (("P", 72000000, 35279860), ("I", 50400000, 50399900), ("Z", 35280000, 35279860)):
+            load = self.load(kind, 720000, 720, 0)
+            self.assertEqual([power.load_rating(load, (volts, 0)) for volts in (504000, 503999)], [(at, 0), (below, 0)])
 
     def test_a_rating_is_rounded_once_and_away_from_zero(self):
         # 100000 · 9 / 640000 is 1.40625, and 100000 · 100 / 4000000 is 2.5.
@@ -112,19 +122,21 @@ class PowerAccount(unittest.TestCase):
         # The load: 2·1·10042 + 238996 + 1. The transformer: 1, |V| of three phases, 2·tol three times, 2·10042.
         self.assertEqual(account.allowance, 259081 + 1 + 720000 + 2 * 983538 + 6 + 20084)
 
-    def between_phases(self, kind, tol=1):
-        # 12000 V between A and B. Of 12 kW at 24000 V a P load takes all, an I load a half and a Z load a quarter.
-        feeder = commands.feeder_text(commands.OPPOSITE_ROW.replace(",1,20", f",{tol},20"), [], [f"S,AB,{kind},2400000,12000,0"])
-        milliamperes = {"P": 1000, "I": 500, "Z": 250}[kind]
+    # 12000 V between A and B, and 12 kW. With vn 15000 V a P load takes all. With vn 24000 V it is below 70 per cent of that and takes a
+    # quarter as a Z load does, and an I load takes a half.
+    BETWEEN_PHASES = (("P", 1500000, 1000), ("P", 2400000, 250), ("I", 2400000, 500), ("Z", 2400000, 250))
+
+    def between_phases(self, kind, vn, milliamperes, tol=1):
+        feeder = commands.feeder_text(commands.OPPOSITE_ROW.replace(",1,20", f",{tol},20"), [], [f"S,AB,{kind},{vn},12000,0"])
         drawn = 1200000 * milliamperes
         report = commands.report_text([commands.OPPOSITE_ROW.rsplit(",", 2)[0]], [], f"1,{drawn},0,{drawn},0,0,0")
         return feeder, report
 
     def test_a_load_between_two_phases_by_hand(self):
-        for kind, milliamperes in (("P", 1000), ("I", 500), ("Z", 250)):
+        for kind, vn, milliamperes in self.BETWEEN_PHASES:
             for tol in (0, 1, 1000):
-                with self.subTest(kind, tol=tol):
-                    account = join(*self.between_phases(kind, tol)).account()
+                with self.subTest(kind, vn=vn, tol=tol):
+                    account = join(*self.between_phases(kind, vn, milliamperes, tol)).account()
                     self.assertEqual(account.ratings, (1200000 * milliamperes, 0))
                     self.assertEqual(account.difference, (0, 0))
                     # 4·tol·|I| + |V| + 1, with V the difference
@@ -149,8 +161,31 @@ class PowerAccount(unittest.TestCase):
 
     @needs_programs
     def test_loads_between_two_phases_by_hand_are_what_the_study_writes(self):
-        for kind in "PIZ":
-            feeder, report = self.between_phases(kind)
+        for row in self.BETWEEN_PHASES:
+            feeder, report = self.between_phases(*row)
+            self.assertEqual(commands.study(feeder), report)
+
+    def at_the_source(self, centivolts, kind, milliamperes):
+        # 720 W at vn 7200 V
+        feeder = commands.feeder_text(f"S,{centivolts},0,0,0,0,0,1,20", [], [f"S,A,{kind},720000,720,0"])
+        drawn = centivolts * milliamperes
+        return feeder, commands.report_text([f"S,{centivolts},0,0,0,0,0"], [], f"1,{drawn},0,{drawn},0,0,0")
+
+    # V, kind, current and rating: at 5040 V a P load takes rnd(142.86), and one cV below, as a Z load does, rnd(69.99986).
+    AT_70_PER_CENT = ((504000, "P", 143, 72000000), (503999, "P", 70, 35279860), (504000, "Z", 70, 35280000), (503999, "Z", 70, 35279860))
+
+    def test_70_per_cent_by_hand(self):
+        for centivolts, kind, milliamperes, rating in self.AT_70_PER_CENT:
+            with self.subTest(kind, centivolts=centivolts):
+                account = join(*self.at_the_source(centivolts, kind, milliamperes)).account()
+                self.assertEqual((account.ratings, account.difference), ((rating, 0), (abs(centivolts * milliamperes - rating), 0)))
+                self.assertEqual(account.allowance, 2 * milliamperes + centivolts + 1)
+                self.assertTrue(account.within)
+
+    @needs_programs
+    def test_70_per_cent_by_hand_is_what_the_study_writes(self):
+        for centivolts, kind, milliamperes, _ in self.AT_70_PER_CENT:
+            feeder, report = self.at_the_source(centivolts, kind, milliamperes)
             self.assertEqual(commands.study(feeder), report)
 
     @needs_programs
@@ -172,10 +207,14 @@ class PowerAccount(unittest.TestCase):
         self.assertEqual(account.difference, (51980, 374523))
         self.assertFalse(account.within)
 
-    def test_a_load_at_zero_voltage_has_no_account(self):
-        feeder = commands.feeder_text("S,0,0,0,0,0,0,1,20", [], ["S,A,P,720000,1,0"])
+    def test_only_a_load_of_kind_i_at_zero_voltage_has_no_account(self):
         report = commands.report_text(["S,0,0,0,0,0,0"], [], "1,0,0,0,0,0,0")
-        self.assertIsNone(join(feeder, report).account())
+        for kind, found in (("P", (0, 0)), ("I", None), ("Z", (0, 0))):
+            joined = join(commands.feeder_text("S,0,0,0,0,0,0,1,20", [], [f"S,A,{kind},720000,1,0"]), report)
+            account = joined.account()
+            self.assertEqual(account and account.difference, found)
+            said = "not defined: a load of kind I stands at zero voltage"
+            self.assertEqual(tables.account_table(joined).rows[0][0] == said, kind == "I")
 
 
 class Figures(ShowCase):
@@ -240,6 +279,21 @@ class Figures(ShowCase):
         loads = csv_tables(commands.run(show, *paths, *NO_PROGRAM, "--csv")[1])[4]
         self.assertEqual([(row["phase"], row["vn_V"], row["V_V"], row["I_A"], row["drawn_p_kW"], row["drawn_q_kvar"]) for row in loads],
                          [("AB", "12000.00", "12000.00", "1.118", "12.000", "6.000"), ("A", "6000.00", "6000.00", "2.000", "12.000", "0.000")])
+
+    def test_a_power_load_below_70_per_cent_of_its_rated_voltage_acts_as_an_impedance(self):
+        loads = [f"S,{phase},{kind},720000,720,0" for phase in "ABC" for kind in "PIZ"] + ["S,AB,P,1440000,720,0", "S,AB,P,1439998,720,0"]
+        feeder = commands.feeder_text("S,504000,0,-503999,0,0,0,1,20", [], [load for load in loads if load[2:5] != "C,I"])
+        paths = self.write(feeder, commands.worked_report(feeder))
+        found = [(row["phase"], row["kind"], row["V_%_of_vn"], row["acts_as"], row["drawn_p_kW"])
+                 for row in csv_tables(commands.run(show, *paths, *NO_PROGRAM, "--csv")[1])[4]]
+        # A whole mA counts here: 143 mA at 5040 V are 720.72 W, and 70 mA are 352.80 W.
+        self.assertEqual(found, [
+            ("A", "P", "70.00", "", "0.721"), ("A", "I", "70.00", "", "0.504"), ("A", "Z", "70.00", "", "0.353"),
+            ("B", "P", "69.99", "Z", "0.353"), ("B", "I", "69.99", "", "0.504"), ("B", "Z", "69.99", "", "0.353"),
+            ("C", "P", "0.00", "Z", "0.000"), ("C", "Z", "0.00", "", "0.000"),
+            ("AB", "P", "69.99", "Z", "0.353"), ("AB", "P", "70.00", "", "0.716")])
+        self.assertIn("warning: feeder, line 10: vn is 7200.00 V, its node S has 5039.99 V on B, 69.99 per cent of vn: "
+                      "below 70 per cent a P row acts as Z; vn is in cV and to ground\n", commands.run(show, *paths, *NO_PROGRAM)[1])
 
     def test_no_branches_and_no_loads(self):
         paths = self.write(commands.feeder_text(commands.SOURCE_ROW), commands.report_text([commands.SOURCE_ROW.rsplit(",", 2)[0]], [], "1,0,0,0,0,0,0"))
@@ -414,7 +468,9 @@ class Warnings(unittest.TestCase):
     def test_a_rated_voltage_far_from_the_node_s(self):
         # 12470 V is the voltage between lines of 7200 V to ground; 7200 is 72 V.
         self.assert_one(self.warned(("P,720000,", "Z,1247000,")), "vn is 12470.00 V, its node N1 has 7190.00 V on A")
-        self.assert_one(self.warned(("P,720000,", "P,7200,")), "vn is 72.00 V", "not used in a P row")
+        self.assert_one(self.warned(("P,720000,", "P,7200,")), "vn is 72.00 V", "(a P row uses vn only below 70 per cent of it, where it acts as Z)")
+        # The report's 7190 V are 57.658 per cent of 12470 V.
+        self.assert_one(self.warned(("P,720000,", "P,1247000,")), "on A, 57.65 per cent of vn: below 70 per cent a P row acts as Z; vn is in cV")
 
 
 if __name__ == "__main__":

@@ -136,8 +136,19 @@ class Page(ViewCase):
         texts = Outline(self.page(*paths).decode()).texts
         # 12000 V of 15000 V: 4/5 of 15 kW, and 1 A. The allowance is 4·1·1000 + 1200000 + 1.
         row = texts[texts.index("AB"):]
-        self.assertEqual(row[:10], ["AB", "I", "15000.00", "15.000", "0.000", "12000.00", "1.000", "0.00", "12.000", "0.000"])
+        self.assertEqual(row[:12], ["AB", "I", "15000.00", "15.000", "0.000", "12000.00", "80.00", "–", "1.000", "0.00", "12.000", "0.000"])
         self.assertIn("1204001", texts)
+
+    def test_a_power_load_below_70_per_cent_of_its_rated_voltage(self):
+        feeder = commands.feeder_text(commands.OPPOSITE_ROW, [], ["S,AB,P,2400000,12000,0"])
+        paths = self.folder / "a.feeder", self.folder / "a.report"
+        for path, text in zip(paths, (feeder, commands.worked_report(feeder))):
+            path.write_text(text)
+        texts = Outline(self.page(*paths).decode()).texts
+        # 12000 V of 24000 V: a quarter of 12 kW
+        row = texts[texts.index("AB"):]
+        self.assertEqual(row[:12], ["AB", "P", "24000.00", "12.000", "0.000", "12000.00", "50.00", "Z", "0.250", "0.00", "3.000", "0.000"])
+        self.assertTrue(any("50.00 per cent of vn: below 70 per cent a P row acts as Z" in text for text in texts))
 
     def test_texts_are_escaped(self):
         shown = tables.read(argparse.Namespace(feeder=EXAMPLES / "example.feeder", report=EXAMPLES / "example.report", programs="no-such-folder"))

@@ -1,7 +1,7 @@
 //! Demand 3, the power account of a report that the check passes. The check does not need it; programs try it.
 
 use crate::equations::{load_current, Pair, Phases};
-use crate::feeder::{Device, Feeder, Kind};
+use crate::feeder::{Device, Feeder, Kind, Load};
 use crate::report::Reported;
 
 /// Twice the difference, without its sign, and the allowance.
@@ -52,6 +52,18 @@ fn size_on(phases: u8, x: &Phases) -> i128 {
     x.iter().enumerate().filter(|(k, _)| phases & 1 << k != 0).map(|(_, x)| size(*x)).sum()
 }
 
+/// The load's rating at voltage `v`, by the kind that its current goes by there.
+fn rating(load: &Load, v: Pair) -> Wide {
+    let square = i128::from(v.square());
+    let vn = i128::from(load.vn);
+    let s = Wide::of(load.s());
+    match load.kind_at(v) {
+        Kind::Power => s,
+        Kind::Current => s.times(square).rnd(i128::from(v.square().isqrt()) * vn),
+        Kind::Impedance => s.times(square).rnd(vn * vn),
+    }
+}
+
 /// The account of a report that was read and passed.
 pub fn account(feeder: &Feeder, report: &Reported) -> Account {
     let tol = i128::from(feeder.tol);
@@ -61,14 +73,7 @@ pub fn account(feeder: &Feeder, report: &Reported) -> Account {
     for load in &feeder.loads {
         let v = load.place.voltage(&report.voltages[load.node]);
         let i = load_current(load, v).unwrap_or_default();
-        let square = i128::from(v.square());
-        let vn = i128::from(load.vn);
-        let s = Wide::of(load.s());
-        sum = sum.plus(match load.kind {
-            Kind::Power => s,
-            Kind::Current => s.times(square).rnd(i128::from(v.square().isqrt()) * vn),
-            Kind::Impedance => s.times(square).rnd(vn * vn),
-        });
+        sum = sum.plus(rating(load, v));
         // 4·tol between two phases, as each of them may be off by tol.
         allowance += 2 * i128::from(load.place.count()) * tol * size(i) + size(v) + 1;
     }
@@ -117,6 +122,28 @@ pub fn account_of(feeder: &[u8], report: &[u8]) -> Option<Account> {
 #[cfg(test)]
 mod tests {
     use super::*;
+    use crate::place::Place;
+
+    #[test]
+    fn ratings() {
+        let rated = |kind: Kind, (p, q): (i64, i64), (re, im): (i64, i64)| {
+            let load = Load { name: 0, node: 0, place: Place::A, kind, vn: 720_000, p, q };
+            let Wide { re, im } = rating(&load, Pair { re, im });
+            (re, im)
+        };
+        // P: S at 70 per cent of vn and above; below it S·503999²/720000² = 503999²/7200 = 35279860.0001.
+        assert_eq!(rated(Kind::Power, (720, 0), (720_000, 0)), (72_000_000, 0));
+        assert_eq!(rated(Kind::Power, (720, 0), (504_000, 0)), (72_000_000, 0));
+        assert_eq!(rated(Kind::Power, (720, 0), (503_999, 0)), (35_279_860, 0));
+        assert_eq!(rated(Kind::Power, (0, -720), (302_400, 403_200)), (0, -72_000_000));
+        // (302400² + 403199²)/7200 = 254015193601/7200 = 35279888.0001.
+        assert_eq!(rated(Kind::Power, (0, -720), (302_400, 403_199)), (0, -35_279_888));
+        assert_eq!(rated(Kind::Power, (720, 720), (0, 0)), (0, 0));
+        // Z goes by S·(re² + im²)/vn² everywhere, 504000²/7200; I by its root, 72,000,000·503999/720000.
+        assert_eq!(rated(Kind::Impedance, (720, 0), (504_000, 0)), (35_280_000, 0));
+        assert_eq!(rated(Kind::Impedance, (720, 0), (503_999, 0)), (35_279_860, 0));
+        assert_eq!(rated(Kind::Current, (720, 0), (503_999, 0)), (50_399_900, 0));
+    }
 
     #[test]
     fn the_example_of_01() {

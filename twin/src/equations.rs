@@ -95,11 +95,12 @@ pub fn steps(root: u64) -> u32 {
     u64::BITS - root.leading_zeros()
 }
 
-/// The load's current at voltage `v`; `None` for a P or I load at zero voltage. Between two phases `v` has parts up to
-/// 4·10^6 and vn goes that far, so re² + im² is at most 3.2·10^13, root·vn 2.3·10^13, and re and im of conj(S)·V are at
-/// most 2·3·10^11·4·10^6 = 2.4·10^18, which is within 64 bits (9.2·10^18).
+/// The load's current at voltage `v`; `None` for an I load at zero voltage. Only there is the divisor 0: vn is at least 1,
+/// and a P load at zero voltage counts as an impedance. Between two phases `v` has parts up to 4·10^6 and vn goes that
+/// far, so re² + im² is at most 3.2·10^13, root·vn 2.3·10^13, and re and im of conj(S)·V are at most
+/// 2·3·10^11·4·10^6 = 2.4·10^18, which is within 64 bits (9.2·10^18).
 pub fn load_current(load: &Load, v: Pair) -> Option<Pair> {
-    let w = match load.kind {
+    let w = match load.kind_at(v) {
         Kind::Power => v.square(),
         Kind::Current => root(v.square() as u64) as i64 * load.vn,
         Kind::Impedance => load.vn * load.vn,
@@ -114,6 +115,21 @@ impl Load {
     /// The rated power in grains.
     pub fn s(&self) -> Pair {
         Pair { re: self.p, im: self.q }.times(GRAINS)
+    }
+
+    /// The kind that the load counts as at its voltage `v`: its own, but a P load below 70 per cent of vn counts as an
+    /// impedance. (Document 02, S-3.) At exactly 70 per cent it is still constant power, at zero voltage never, as vn is
+    /// at least 1. 100·(re² + im²) is at most 3.2·10^15 and 49·vn² at most 7.9·10^14, which is within 64 bits.
+    pub fn kind_at(&self, v: Pair) -> Kind {
+        match self.kind {
+            Kind::Power if 100 * v.square() < 49 * self.vn * self.vn => Kind::Impedance,
+            kind => kind,
+        }
+    }
+
+    /// Whether it is a P load that counts as an impedance at these voltages of the nodes.
+    pub fn is_low(&self, v: &[Phases]) -> bool {
+        self.kind_at(self.place.voltage(&v[self.node])) != self.kind
     }
 }
 
@@ -242,13 +258,104 @@ mod tests {
     fn loads() {
         let p = load(Kind::Power, 720_000, 72_000, 0);
         assert_eq!(load_current(&p, pair(719_000, 0)), Some(pair(10_014, 0)));
-        assert_eq!(load_current(&p, ZERO), None);
         let i = load(Kind::Current, 500_000, 100, 0);
         assert_eq!(load_current(&i, pair(300_000, 400_000)), Some(pair(12, 16)));
         assert_eq!(load_current(&i, ZERO), None);
         let z = load(Kind::Impedance, 720_000, 0, -720);
         assert_eq!(load_current(&z, pair(720_000, 0)), Some(pair(0, 100)));
         assert_eq!(load_current(&z, ZERO), Some(ZERO));
+    }
+
+    #[test]
+    fn low_voltage() {
+        // 70 per cent of 720000 is 504000: 7.2·10^9/504000 is 14285.7. Below it the impedance takes V/72: 503999/72 is
+        // 6999.99, and 252000/72 is 3500.
+        let p = load(Kind::Power, 720_000, 72_000, 0);
+        assert_eq!(load_current(&p, pair(504_001, 0)), Some(pair(14_286, 0)));
+        assert_eq!(load_current(&p, pair(504_000, 0)), Some(pair(14_286, 0)));
+        assert_eq!(load_current(&p, pair(503_999, 0)), Some(pair(7_000, 0)));
+        assert_eq!(load_current(&p, pair(252_000, 0)), Some(pair(3_500, 0)));
+        // The same at other angles: 302400² + 403200² is 504000². 7.2·10^9·(302400, 403200)/504000² is (8571.4, 11428.6)
+        // and (302400, 403199)/72 is (4200, 5599.99).
+        for (v, kind) in [
+            (pair(-504_000, 0), Kind::Power),
+            (pair(0, 504_000), Kind::Power),
+            (pair(0, -503_999), Kind::Impedance),
+            (pair(302_400, -403_200), Kind::Power),
+            (pair(302_400, -403_199), Kind::Impedance),
+            (pair(-302_399, 403_200), Kind::Impedance),
+            (pair(-302_400, 403_201), Kind::Power),
+        ] {
+            assert_eq!(p.kind_at(v), kind, "{v:?}");
+        }
+        assert_eq!(load_current(&p, pair(302_400, 403_200)), Some(pair(8_571, 11_429)));
+        assert_eq!(load_current(&p, pair(302_400, 403_199)), Some(pair(4_200, 5_600)));
+        // Reactive power too: conj(j·7.2·10^9)·503999/720000² is −j·6999.99.
+        let reactive = load(Kind::Power, 720_000, 0, 72_000);
+        assert_eq!(load_current(&reactive, pair(503_999, 0)), Some(pair(0, -7_000)));
+        assert_eq!(load_current(&reactive, pair(504_000, 0)), Some(pair(0, -14_286)));
+    }
+
+    #[test]
+    fn low_voltage_by_small_and_large_numbers() {
+        // vn, the greatest voltage below 70 per cent of it, and the least that is not.
+        for (vn, below, not_below) in [
+            (1, 0, 1),
+            (2, 1, 2),
+            (3, 2, 3),
+            (10, 6, 7),
+            (11, 7, 8),
+            (719_999, 503_999, 504_000),
+            (720_001, 504_000, 504_001),
+            (1_999_999, 1_399_999, 1_400_000),
+            (2_000_000, 1_399_999, 1_400_000),
+            (4_000_000, 2_799_999, 2_800_000),
+        ] {
+            let p = load(Kind::Power, vn, 1, 1);
+            assert_eq!(p.kind_at(pair(below, 0)), Kind::Impedance, "{vn}");
+            assert_eq!(p.kind_at(pair(0, -not_below)), Kind::Power, "{vn}");
+        }
+        // The largest numbers of both sides: 3.2·10^15 is not below 7.84·10^14.
+        let p = load(Kind::Power, 4_000_000, 3_000_000, 3_000_000);
+        assert_eq!(p.kind_at(pair(-4_000_000, 4_000_000)), Kind::Power);
+        assert_eq!(p.kind_at(pair(-2_000_000, 1_959_591)), Kind::Impedance);
+        assert_eq!(p.kind_at(pair(-2_000_000, 1_959_592)), Kind::Power);
+    }
+
+    #[test]
+    fn zero_voltage() {
+        for vn in [1, 720_000, 4_000_000] {
+            for (p, q) in [(0, 0), (72_000, -1), (3_000_000, 3_000_000)] {
+                assert_eq!(load_current(&load(Kind::Power, vn, p, q), ZERO), Some(ZERO));
+                assert_eq!(load_current(&load(Kind::Impedance, vn, p, q), ZERO), Some(ZERO));
+                assert_eq!(load_current(&load(Kind::Current, vn, p, q), ZERO), None);
+            }
+        }
+    }
+
+    #[test]
+    fn other_kinds_have_no_rule() {
+        for v in [pair(720_000, 0), pair(504_000, 0), pair(503_999, 0), pair(1, 0), ZERO] {
+            assert_eq!(load(Kind::Current, 720_000, 72_000, 0).kind_at(v), Kind::Current);
+            assert_eq!(load(Kind::Impedance, 720_000, 72_000, 0).kind_at(v), Kind::Impedance);
+        }
+        // An I load takes S/vn at any voltage but 0.
+        let i = load(Kind::Current, 720_000, 72_000, 0);
+        for v in [720_000, 504_000, 503_999, 1] {
+            assert_eq!(load_current(&i, pair(v, 0)), Some(pair(10_000, 0)));
+        }
+    }
+
+    #[test]
+    fn between_two_phases_the_difference_counts() {
+        let p = Load { place: Place::AB, ..load(Kind::Power, 720_000, 72_000, 0) };
+        let at = |a: Pair, b: Pair| load_current(&p, p.place.voltage(&[a, b, pair(720_000, 0)]));
+        // Both phases are below 70 per cent of vn, and their difference is not.
+        assert_eq!(at(pair(252_000, 0), pair(-252_000, 0)), Some(pair(14_286, 0)));
+        assert_eq!(at(pair(252_000, 0), pair(-251_999, 0)), Some(pair(7_000, 0)));
+        // Neither phase is below it, and their difference is: 216000/72.
+        assert_eq!(at(pair(720_000, 0), pair(504_000, 0)), Some(pair(3_000, 0)));
+        assert_eq!(at(pair(720_000, 0), pair(720_000, 0)), Some(ZERO));
     }
 
     #[test]

@@ -1,8 +1,11 @@
-//! A seeded generator of feeders and reports: sound, mangled, at the limits, and edited.
+//! A seeded generator of feeders and reports: sound, mangled, at the limits, at low voltage, and edited.
 
-use crate::equations::{Pair, Phases, LIMIT, NONE};
-use crate::feeder::{read_feeder, Feeder, Load, BRANCH_HEADER, LOAD_HEADER, MAX_BRANCHES, MAX_LOADS, SOURCE_HEADER};
+use crate::equations::{Pair, Phases, LIMIT, NONE, ZERO};
+use crate::feeder::{
+    read_feeder, Feeder, Kind, Load, BRANCH_HEADER, LOAD_HEADER, MAX_BRANCHES, MAX_LOADS, SOURCE_HEADER,
+};
 use crate::ladder::{settle, Currents, Powers};
+use crate::place::Place;
 use crate::report::write_rows;
 use crate::MAX_FILE;
 
@@ -696,32 +699,9 @@ pub fn transformers(random: &mut Random) -> Draft {
     draft
 }
 
-/// Feeders for loads between two phases: nodes of all phases words, the source's phases balanced, alike, opposite, at 0 or
-/// at the limits, rows where a phase is absent, vn at its limit and past it, and currents near theirs.
-pub fn deltas(random: &mut Random) -> Draft {
-    let tol = *random.pick(&[0, 0, 1, 2, 1000]);
-    let mut draft = Draft { source: source_row("S", 720_000, tol, random.between(1, 30)), ..Draft::default() };
-    match random.below(6) {
-        0 | 1 => {}
-        2 => {
-            // Two phases alike.
-            let (a, b) = (1 + 2 * random.below(3), 1 + 2 * random.below(3));
-            draft.source[b] = draft.source[a].clone();
-            draft.source[b + 1] = draft.source[a + 1].clone();
-        }
-        3 => {
-            // At the ends, so that a difference has 4,000,000.
-            for field in &mut draft.source[1..7] {
-                *field = random.pick(&["2000000", "-2000000", "2000000", "-2000000", "1999999", "0"]).to_string();
-            }
-        }
-        _ => {
-            for field in &mut draft.source[1..7] {
-                *field = random.pick(&["300000", "-300000", "0", "0", "1", "-1"]).to_string();
-            }
-        }
-    }
-
+/// Adds one to five branches from node S, mostly of fewer phases than all, half of the time without impedance. Answers
+/// the nodes, each with its phases: S, and the to-nodes in row order.
+fn few_branches(random: &mut Random, draft: &mut Draft) -> Vec<(String, &'static str)> {
     const WORDS: [&str; 10] = ["A", "B", "C", "AB", "AC", "BC", "AB", "AC", "BC", "ABC"];
     let mut nodes = vec![("S".to_string(), "ABC")];
     let with_ohms = random.once_in(2);
@@ -764,6 +744,36 @@ pub fn deltas(random: &mut Random) -> Draft {
         draft.branches.push(row);
         nodes.push((format!("N{k}"), phases));
     }
+    nodes
+}
+
+/// Feeders for loads between two phases: nodes of all phases words, the source's phases balanced, alike, opposite, at 0 or
+/// at the limits, rows where a phase is absent, vn at its limit and past it, and currents near theirs.
+pub fn deltas(random: &mut Random) -> Draft {
+    let tol = *random.pick(&[0, 0, 1, 2, 1000]);
+    let mut draft = Draft { source: source_row("S", 720_000, tol, random.between(1, 30)), ..Draft::default() };
+    match random.below(6) {
+        0 | 1 => {}
+        2 => {
+            // Two phases alike.
+            let (a, b) = (1 + 2 * random.below(3), 1 + 2 * random.below(3));
+            draft.source[b] = draft.source[a].clone();
+            draft.source[b + 1] = draft.source[a + 1].clone();
+        }
+        3 => {
+            // At the ends, so that a difference has 4,000,000.
+            for field in &mut draft.source[1..7] {
+                *field = random.pick(&["2000000", "-2000000", "2000000", "-2000000", "1999999", "0"]).to_string();
+            }
+        }
+        _ => {
+            for field in &mut draft.source[1..7] {
+                *field = random.pick(&["300000", "-300000", "0", "0", "1", "-1"]).to_string();
+            }
+        }
+    }
+
+    let nodes = few_branches(random, &mut draft);
 
     // One kind of fault at a time, so that what comes behind it is met too.
     let fault = random.below(12);
@@ -814,9 +824,212 @@ pub fn deltas(random: &mut Random) -> Draft {
     draft
 }
 
+/// The greatest vn at which a P row at this voltage is constant power: the voltage is then 70 per cent of vn, or above it
+/// by less than one unit of vn. 0 at zero voltage, where there is none.
+fn edge_vn(v: Pair) -> i64 {
+    (100 * v.square() / 49).isqrt()
+}
+
+/// A vn for a row at this voltage: mostly so that the voltage is at 70 per cent or one unit to a side of it.
+fn near_edge(random: &mut Random, v: Pair, most: i64) -> i64 {
+    let edge = edge_vn(v);
+    let vn = match random.below(12) {
+        0..=4 => edge,
+        5..=7 => edge + 1,
+        8 => edge - 1,
+        // The voltage is far below 70 per cent; below it, as a rule; and at 100 per cent.
+        9 => edge * random.between(2, 100),
+        10 => most,
+        _ => edge * 7 / 10,
+    };
+    vn.clamp(1, most)
+}
+
+/// Gives P rows, one in n, a vn near the edge at the voltages that the study reports. As a rule a row that was constant
+/// power and stays so changes no answer by that; one that becomes an impedance does, and the feeder may then not settle.
+fn aim(random: &mut Random, draft: &mut Draft, n: usize) {
+    let Ok(feeder) = read_feeder(&draft.text()) else { return };
+    let Ok(settled) = settle(&feeder) else { return };
+    for (row, load) in draft.loads.iter_mut().zip(&feeder.loads) {
+        if load.kind == Kind::Power && random.once_in(n) {
+            let v = load.place.voltage(&settled.voltages[load.node]);
+            row[3] = near_edge(random, v, load.place.most_vn()).to_string();
+        }
+    }
+}
+
+/// Feeders for constant power at low voltage: P rows at 70 per cent of vn, one unit to either side, far below it and at
+/// zero voltage, and such that step to and fro across it.
+pub fn low_voltages(random: &mut Random) -> Draft {
+    match random.below(8) {
+        0 => {
+            let mut draft = some_sound(random);
+            let n = *random.pick(&[1, 2, 4]);
+            aim(random, &mut draft, n);
+            draft
+        }
+        1 => exact_behind_a_line(random),
+        2 => to_and_fro(random),
+        3 => to_zero(random),
+        _ => at_edges(random),
+    }
+}
+
+/// Voltages of A, B and C of which all lengths, and those of all differences, are multiples of 7: there a P row can be at
+/// exactly 70 per cent. In the last five rows phases are alike or at 0.
+const SEVENS: [[i64; 6]; 8] = [
+    [21, 0, 0, 28, 0, -28],
+    [21, 28, -21, 28, 21, -28],
+    [14, 0, -14, 0, 7, 0],
+    [7, 0, 7, 0, -7, 0],
+    [21, -28, 21, -28, 21, -28],
+    [0, 0, 21, 0, 0, 28],
+    [-35, 0, 0, 0, 0, 0],
+    [0, 35, 0, 35, 0, 0],
+];
+
+/// A few nodes, and rows of all kinds and places whose vn goes by their voltage without load, or by the reported one.
+fn at_edges(random: &mut Random) -> Draft {
+    let tol = *random.pick(&[0, 0, 1, 2, 1000]);
+    let mut draft = Draft { source: source_row("S", 720_000, tol, random.between(2, 30)), ..Draft::default() };
+    if !random.once_in(5) {
+        // 100,000 times the third row has a phase at 1,400,000 and a difference at 2,800,000: 70 per cent of the largest vn.
+        let times = match random.below(6) {
+            0 => random.between(1, 30),
+            1 => 100_000,
+            _ => random.between(1_000, 40_000),
+        };
+        let first = random.below(3);
+        for (k, part) in random.pick(&SEVENS).iter().enumerate() {
+            draft.source[1 + (k + 2 * first) % 6] = (part * times).clamp(-LIMIT, LIMIT).to_string();
+        }
+    }
+    let nodes = few_branches(random, &mut draft);
+    // Where a branch cannot stand, the feeder is refused and any voltages will do.
+    let voltages = match read_feeder(&draft.text()) {
+        Ok(feeder) => downward_clamped(&feeder),
+        Err(_) => vec![NONE; nodes.len()],
+    };
+
+    for _ in 0..random.between(1, 6) {
+        let node = random.below(nodes.len());
+        let (name, phases) = &nodes[node];
+        let mut words = delta_words(phases);
+        if words.is_empty() || random.once_in(2) {
+            words = ["A", "B", "C"].into_iter().filter(|letter| phases.contains(letter)).collect();
+        }
+        let word = *random.pick(&words);
+        let place = Place::of_word(word.as_bytes()).expect("a place's word");
+        let v = place.voltage(&voltages[node]);
+        // At zero voltage an I row ends the study; mostly none stands there.
+        let no_i = v == ZERO && !random.once_in(8);
+        let kind = *random.pick(if no_i { &["P", "P", "P", "P", "Z"] } else { &["P", "P", "P", "I", "Z"] });
+        let vn = near_edge(random, v, place.most_vn());
+        // As constant power at most about 2,000,000 mA in re and im, mostly far less. At zero voltage any power will do.
+        let length = if v == ZERO { 150_000.0 } else { (v.square() as f64).sqrt() };
+        let part = *random.pick(&[0.001, 0.001, 0.01, 0.1, 1.0]);
+        let most_va = ((part * 20.0 * length) as i64).clamp(1, 3_000_000);
+        let mut va = || random.between(-most_va, most_va);
+        draft.loads.push(row![name, word, kind, vn, va(), va()]);
+    }
+    if random.once_in(2) {
+        aim(random, &mut draft, 2);
+    }
+    draft
+}
+
+/// A P row behind one line, on A or between A and B, all voltages real: the source's grow by 1 cV until the reported one is
+/// a multiple of 7, and vn is ten sevenths of that, or one off it.
+fn exact_behind_a_line(random: &mut Random) -> Draft {
+    let delta = random.once_in(2);
+    let place = if delta { Place::AB } else { Place::A };
+    let word = if delta { "AB" } else { "A" };
+    let cv = random.between(10_000, 1_300_000);
+    let ohms = random.between(1_000, 3_000_000);
+    // A drop of up to a tenth: r·p/(100·V²) of V on a line, by the units of 01.
+    let p = 0.1 * random.share() * 100.0 * cv as f64 * cv as f64 / ohms as f64;
+    let p = (p as i64).clamp(1, 3_000_000);
+    let tol = *random.pick(&[0, 1, 1, 5]);
+    let mut draft = Draft { source: row!["S", 0, 0, 0, 0, 0, 0, tol, random.between(20, 100)], ..Draft::default() };
+    let on_b = if delta { ohms } else { 0 };
+    draft.branches.push(row!["S", "N", word, "L", ohms, 0, 0, 0, 0, 0, on_b, 0, 0, 0, 0, 0]);
+    // With this vn it is constant power at any voltage but 0.
+    draft.loads.push(row!["N", word, "P", 1, p, 0]);
+    for more in 0..20 {
+        draft.source[1] = (cv + more).to_string();
+        draft.source[3] = (-cv - more).to_string();
+        let Ok(feeder) = read_feeder(&draft.text()) else { break };
+        let Ok(settled) = settle(&feeder) else { break };
+        let v = place.voltage(&settled.voltages[1]).re;
+        if v % 7 == 0 {
+            let off = *random.pick(&[0, 0, 0, 0, 1, -1]);
+            draft.loads[0][3] = (v / 7 * 10 + off).clamp(1, place.most_vn()).to_string();
+            break;
+        }
+    }
+    draft
+}
+
+/// A P row behind one line whose drop leads below 70 per cent as constant power and, mostly, back above it as an impedance:
+/// then the study meets 34, unless tol is as large as its steps.
+fn to_and_fro(random: &mut Random) -> Draft {
+    let delta = random.once_in(2);
+    let vn = random.between(10_000, 1_200_000);
+    // Without load the voltage is above 70 per cent by this part. There an impedance takes 0.49 times the current of
+    // constant power, so that a drop of constant power of 1 to 2 times the part leads below and back; 0.9 to 2.2 are drawn.
+    let above = 0.01 + 0.3 * random.share();
+    let drop = above * (0.9 + 1.3 * random.share());
+    let edge = 0.7 * vn as f64;
+    let cv = edge * (1.0 + above) / if delta { 3f64.sqrt() } else { 1.0 };
+    let ohms = random.between(1_000_000, 20_000_000);
+    // r·p/(100·V²) of V, and twice that where the current goes out and back.
+    let p = drop * 100.0 * edge * edge / ohms as f64 / if delta { 2.0 } else { 1.0 };
+    let p = (p as i64).clamp(1, 3_000_000);
+    let q = if random.once_in(2) { 0 } else { random.between(-p / 8, p / 8) };
+    let tol = *random.pick(&[0, 1, 10, 100, 1000]);
+    let mut draft =
+        Draft { source: source_row("S", cv.round() as i64, tol, random.between(2, 100)), ..Draft::default() };
+    let reactance = if random.once_in(2) { 0 } else { random.between(-ohms / 4, ohms / 4) };
+    let z = [ohms, reactance];
+    draft.branches.push(row!["S", "N", "ABC", "L", z[0], z[1], 0, 0, 0, 0, z[0], z[1], 0, 0, z[0], z[1]]);
+    let word = *random.pick(if delta { &DELTA_WORDS } else { &["A", "B", "C"] });
+    draft.loads.push(row!["N", word, "P", vn, p, q]);
+    // More rows at the node, of any kind, with little power.
+    for _ in 0..random.below(3) {
+        let word = *random.pick(&["A", "B", "C", "AB", "BC", "CA"]);
+        let kind = *random.pick(&["P", "I", "Z"]);
+        draft.loads.push(row!["N", word, kind, vn, random.between(0, p / 50), random.between(-p / 50, p / 50)]);
+    }
+    draft
+}
+
+/// A P row on A, or between A and B, whose current as constant power drops all of the voltage: the second sweep has it at
+/// zero voltage, where an I row beside it meets 30.
+fn to_zero(random: &mut Random) -> Draft {
+    // At 100·n cV n² VA take 1000·n mA, which drop 100·n cV over 1 Ω; between two phases half of that on each line.
+    let n = random.between(1, 1_000);
+    let delta = random.once_in(2);
+    let (phases, word, parts, ohms) = if delta {
+        ("AB", "AB", [50 * n, -50 * n], [500_000, 500_000])
+    } else {
+        ("A", "A", [100 * n, 0], [1_000_000, 0])
+    };
+    let tol = *random.pick(&[0, 1, 1000]);
+    let mut draft =
+        Draft { source: row!["S", parts[0], 0, parts[1], 0, 0, 0, tol, random.between(1, 20)], ..Draft::default() };
+    draft.branches.push(row!["S", "N", phases, "L", ohms[0], 0, 0, 0, 0, 0, ohms[1], 0, 0, 0, 0, 0]);
+    let most = edge_vn(Pair { re: 100 * n, im: 0 });
+    let vn = if random.once_in(4) { most + random.between(0, 1) } else { random.between(1, most) };
+    draft.loads.push(row!["N", word, "P", vn, n * n, 0]);
+    if random.once_in(2) {
+        draft.loads.push(row!["N", word, random.pick(&["P", "I", "Z"]), vn, 0, 0]);
+    }
+    draft
+}
+
 /// Any feeder file.
 pub fn any_feeder(random: &mut Random) -> Vec<u8> {
-    match random.below(12) {
+    match random.below(15) {
         0..=2 => some_sound(random).text(),
         3 | 4 => hard(random).text(),
         5 | 6 => wrong(random).text(),
@@ -834,6 +1047,7 @@ pub fn any_feeder(random: &mut Random) -> Vec<u8> {
                 text
             }
         }
+        11..=13 => low_voltages(random).text(),
         _ => {
             let text = boundary(random);
             if text.len() < 5_000 {
@@ -885,10 +1099,16 @@ pub fn forge(random: &mut Random, feeder: &Feeder, moves: usize) -> Vec<u8> {
         Err(_) => (downward_clamped(feeder), 1),
     };
     let between: Vec<&Load> = feeder.loads.iter().filter(|load| load.place.is_delta()).collect();
+    let powers: Vec<&Load> = feeder.loads.iter().filter(|load| load.kind == Kind::Power && load.node != 0).collect();
     for _ in 0..moves {
         if !between.is_empty() && random.once_in(3) {
             let load = *random.pick(&between);
             move_both(random, feeder, load, &mut voltages[load.node]);
+            continue;
+        }
+        if !powers.is_empty() && random.once_in(4) {
+            let load = *random.pick(&powers);
+            move_to_edge(random, load, &mut voltages[load.node]);
             continue;
         }
         let node = random.below(nodes);
@@ -951,6 +1171,20 @@ fn move_both(random: &mut Random, feeder: &Feeder, load: &Load, v: &mut Phases) 
     }
 }
 
+/// Moves re of the load's first phase so that its voltage is the lowest of that im at which it is constant power, or 1 cV
+/// to either side of that.
+fn move_to_edge(random: &mut Random, load: &Load, v: &mut Phases) {
+    let now = load.place.voltage(v);
+    // 100·(re² + im²) is to be at least 49·vn².
+    let square = ((49 * load.vn * load.vn + 99) / 100 - now.im * now.im).max(0);
+    let root = square.isqrt();
+    let lowest = if root * root < square { root + 1 } else { root };
+    let re = (lowest + random.between(-1, 1)) * if now.re < 0 { -1 } else { 1 };
+    for (v, sign) in v.iter_mut().zip(load.place.signs()).filter(|(_, sign)| *sign > 0) {
+        v.re = (v.re + sign * (re - now.re)).clamp(-LIMIT, LIMIT);
+    }
+}
+
 /// V0, each voltage held within the limit.
 fn downward_clamped(feeder: &Feeder) -> Vec<Phases> {
     let mut voltages = vec![feeder.source_v; feeder.branches.len() + 1];
@@ -998,8 +1232,8 @@ fn edit_sweeps(random: &mut Random, text: &[u8]) -> Vec<u8> {
 #[cfg(test)]
 mod tests {
     use super::*;
-    use crate::feeder::Kind;
-    use crate::place::Place;
+    use crate::ladder::settle_watched;
+    use crate::report::read_report;
     use crate::{check, parts, study, Answer};
 
     #[test]
@@ -1101,6 +1335,85 @@ mod tests {
             }
         }
         assert_eq!(met.len(), 18, "{met:?}");
+    }
+
+    /// Where a P row stands at the voltage `v` of the study's report; `dropped` if that is not the one without load.
+    fn standing(load: &Load, v: Pair, dropped: bool) -> &'static str {
+        let edge = edge_vn(v);
+        match (load.kind_at(v), load.place.is_delta()) {
+            (Kind::Power, delta) if 100 * v.square() == 49 * load.vn * load.vn => match (delta, dropped) {
+                (false, false) => "one phase, at 70 per cent",
+                (false, true) => "one phase, at 70 per cent behind a drop",
+                (true, false) => "two phases, at 70 per cent",
+                (true, true) => "two phases, at 70 per cent behind a drop",
+            },
+            (Kind::Power, false) if load.vn == edge => "one phase, just above",
+            (Kind::Power, true) if load.vn == edge => "two phases, just above",
+            (Kind::Power, false) => "one phase, above",
+            (Kind::Power, true) => "two phases, above",
+            (_, false) if v == ZERO => "one phase, at zero voltage",
+            (_, true) if v == ZERO => "two phases, at zero voltage",
+            (_, false) if load.vn == edge + 1 => "one phase, just below",
+            (_, true) if load.vn == edge + 1 => "two phases, just below",
+            (_, false) if load.vn > 2 * edge => "one phase, far below",
+            (_, true) if load.vn > 2 * edge => "two phases, far below",
+            (_, false) => "one phase, below",
+            (_, true) => "two phases, below",
+        }
+    }
+
+    #[test]
+    fn low_voltages_are_drawn() {
+        // How often each of these is met: P rows with some power in the study's reports, the study's answers where a P row
+        // counts as an impedance in a sweep, and the check's where one does so at the reported voltages.
+        let mut met = std::collections::BTreeMap::<_, usize>::new();
+        for seed in 0..3000 {
+            let mut random = Random::new(seed);
+            let text = any_feeder(&mut random);
+            let report = any_report(&mut random, &text);
+            let Ok(feeder) = read_feeder(&text) else { continue };
+            let mut count = |what| *met.entry(what).or_default() += 1;
+            let has = |kind| feeder.loads.iter().any(|load| load.kind == kind);
+
+            let mut sweeps: Vec<Vec<Phases>> = Vec::new();
+            let answer = settle_watched(&feeder, |v| sweeps.push(v.to_vec()));
+            let low: Vec<Vec<bool>> =
+                sweeps.iter().map(|v| feeder.loads.iter().map(|load| load.is_low(v)).collect()).collect();
+            let is_low = low.iter().flatten().any(|low| *low);
+            match &answer {
+                Ok(_) if is_low && has(Kind::Current) && has(Kind::Impedance) => {
+                    count("study, all three kinds: report")
+                }
+                Ok(_) if is_low => count("study: report"),
+                Err((30, _)) if is_low => count("study: 30"),
+                Err((31..=33, _)) if is_low => count("study: 31 to 33"),
+                Err((34, _)) if is_low => {
+                    let last = low.len() - 1;
+                    count(if low[last] != low[last.saturating_sub(1)] { "study: 34, to and fro" } else { "study: 34" });
+                }
+                _ => {}
+            }
+            if let Ok(settled) = &answer {
+                for load in feeder.loads.iter().filter(|load| load.kind == Kind::Power && (load.p, load.q) != (0, 0)) {
+                    let [first, reported] = [&sweeps[0], &settled.voltages].map(|v| load.place.voltage(&v[load.node]));
+                    count(standing(load, reported, reported != first));
+                }
+            }
+
+            let Ok(read) = read_report(&feeder, &report) else { continue };
+            if feeder.loads.iter().any(|load| load.is_low(&read.voltages)) {
+                count(match check(&text, &report) {
+                    Answer::Pass => "check: pass",
+                    Answer::Refused { number: 30, .. } => "check: 30",
+                    Answer::Refused { number: 53, .. } => "check: 53",
+                    Answer::Refused { number: 54, .. } => "check: 54",
+                    Answer::Refused { number: 55, .. } => "check: 55",
+                    _ => "check: 31 and 32",
+                });
+            }
+        }
+        assert_eq!(met.len(), 28, "{met:#?}");
+        assert!(met.values().all(|count| *count >= 10), "{met:#?}");
     }
 
     #[test]

@@ -85,6 +85,11 @@ impl Currents {
 
 /// Sweeps until no voltage moves more than tol (refusals 30 to 34).
 pub fn settle(feeder: &Feeder) -> Result<Settled, Refusal> {
+    settle_watched(feeder, |_| {})
+}
+
+/// The same, and shows the voltages that each sweep takes its currents from.
+pub fn settle_watched(feeder: &Feeder, mut watch: impl FnMut(&[Phases])) -> Result<Settled, Refusal> {
     let mut currents = Currents::of(feeder);
     let mut now = vec![feeder.source_v; feeder.branches.len() + 1];
     let mut next = now.clone();
@@ -92,6 +97,7 @@ pub fn settle(feeder: &Feeder) -> Result<Settled, Refusal> {
     downward(feeder, &currents, &now, &mut next).ok_or((33, 0))?;
     std::mem::swap(&mut now, &mut next);
     for sweep in 1..=feeder.limit {
+        watch(&now);
         currents.work(feeder, &now).map_err(|number| (number, sweep as u64))?;
         let moved = downward(feeder, &currents, &now, &mut next).ok_or((33, sweep as u64))?;
         if !moved {

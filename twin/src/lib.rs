@@ -1,5 +1,5 @@
-//! A second study and check for radial feeders, written from documents 01 and 02 (S-1) and docs/DECISIONS.md. Nothing
-//! here is proved.
+//! A second study and check for radial feeders, written from documents 01 and 02 (S-1, S-2 and S-3) and
+//! docs/DECISIONS.md. Nothing here is proved.
 //!
 //! It is there to be compared with the proved programs (`bin/fuzz`) and to measure them against (`bin/bench`).
 
@@ -142,9 +142,9 @@ mod tests {
     fn sweeps_are_counted() {
         let feeder = EXAMPLE_FEEDER.replace(",1,20\n", ",1,1\n");
         assert_eq!(study(feeder.as_bytes(), &mut []), refused(34, 1));
-        let feeder = EXAMPLE_FEEDER.replace("720000,72000,0", "720000,3000000,0").replace("S,720000,0", "S,1,0");
+        let feeder = EXAMPLE_FEEDER.replace("720000,72000,0", "1,3000000,0").replace("S,720000,0", "S,1,0");
         assert_eq!(study(feeder.as_bytes(), &mut []), refused(31, 1));
-        let feeder = EXAMPLE_FEEDER.replace("S,720000,0", "S,0,0");
+        let feeder = EXAMPLE_FEEDER.replace("A,P", "A,I").replace("S,720000,0", "S,0,0");
         assert_eq!(study(feeder.as_bytes(), &mut []), refused(30, 1));
     }
 
@@ -155,15 +155,20 @@ mod tests {
         let feeder = EXAMPLE_FEEDER.replace("S,720000,0", "S,2000000,2000000") + &rows;
         assert_eq!(study(feeder.as_bytes(), &mut []), refused(31, 1));
         // 30 of a later row comes before 31.
-        let feeder = feeder + "S,B,P,1,0,0\n";
+        let feeder = feeder + "S,B,I,1,0,0\n";
         let feeder = feeder.replace("-360000,-623538,", "0,0,");
         assert_eq!(study(feeder.as_bytes(), &mut []), refused(30, 1));
     }
 
     /// The check of the example's report with one text replaced by another.
     fn edited(from: &str, to: &str) -> Answer {
+        edited_for(EXAMPLE_FEEDER, from, to)
+    }
+
+    /// The same for another feeder.
+    fn edited_for(feeder: &str, from: &str, to: &str) -> Answer {
         assert!(EXAMPLE_REPORT.contains(from));
-        check(EXAMPLE_FEEDER.as_bytes(), EXAMPLE_REPORT.replacen(from, to, 1).as_bytes())
+        check(feeder.as_bytes(), EXAMPLE_REPORT.replacen(from, to, 1).as_bytes())
     }
 
     #[test]
@@ -178,8 +183,12 @@ mod tests {
         assert_eq!(edited("S,N1,", "N1,N1,"), refused(51, 6));
         assert_eq!(edited("S,720000", "S,720001"), refused(52, 2));
         assert_eq!(edited("N1,719000,0,0", "N1,719000,0,1"), refused(52, 3));
-        assert_eq!(edited("N1,719000,0", "N1,0,0"), refused(30, 0));
-        assert_eq!(edited("N1,719000,0", "N1,1,0"), refused(31, 0));
+        // At 0 and at 1 cV a P load counts as an impedance and takes 0; an I load meets 30 at 0, and with vn 1 the P load is
+        // constant power at 1 and meets 31.
+        assert_eq!(edited("N1,719000,0", "N1,0,0"), refused(53, 6));
+        assert_eq!(edited("N1,719000,0", "N1,1,0"), refused(53, 6));
+        assert_eq!(edited_for(&EXAMPLE_FEEDER.replace("A,P", "A,I"), "N1,719000,0", "N1,0,0"), refused(30, 0));
+        assert_eq!(edited_for(&EXAMPLE_FEEDER.replace("P,720000", "P,1"), "N1,719000,0", "N1,1,0"), refused(31, 0));
         assert_eq!(edited("10014,0", "10015,0"), refused(53, 6));
         assert_eq!(edited("10014,0,0,0", "10014,0,1,0"), refused(53, 6));
         // At 719002 the load still takes 10014; the worked 718999 is 3 away.

@@ -1,41 +1,13 @@
 //! Request S-1, delta loads, by numbers worked by hand.
 
+mod common;
+
+use common::{feeder, flow, studied};
 use twin::account::{account_of, Account};
-use twin::{check, study, Answer};
+use twin::{check, Answer};
 
 /// A stands at (300000, 0), B at (−300000, 0), C at 0.
 const OPPOSITE: &str = "300000,0,-300000,0,0,0";
-
-/// A feeder with this source (voltages, tol, sweeps), these branch rows and these load rows.
-fn feeder(source: &str, branches: &[&str], loads: &[&str]) -> Vec<u8> {
-    let rows = |rows: &[&str]| rows.iter().map(|row| format!("{row}\n")).collect::<String>();
-    format!(
-        "source,va_re,va_im,vb_re,vb_im,vc_re,vc_im,tol,sweeps\nS,{source}\n\n\
-         from,to,phases,kind,p1,p2,p3,p4,p5,p6,p7,p8,p9,p10,p11,p12\n{}\n\
-         node,phase,kind,vn,p,q\n{}",
-        rows(branches),
-        rows(loads)
-    )
-    .into_bytes()
-}
-
-/// The study's report, or its refusal.
-fn studied(feeder: &[u8]) -> Result<String, (u32, u64)> {
-    let mut out = vec![0; 65_536];
-    match study(feeder, &mut out) {
-        Answer::Report { length, .. } => Ok(String::from_utf8(out[..length].to_vec()).expect("plain text")),
-        Answer::Refused { number, value } => Err((number, value)),
-        Answer::Pass => unreachable!("a study does not pass"),
-    }
-}
-
-/// The rows of one branch and of the totals, of a study with one line without impedance from S to N on all phases.
-fn flow(voltages: &str, loads: &[&str]) -> Result<(String, String), (u32, u64)> {
-    let line = "S,N,ABC,L,0,0,0,0,0,0,0,0,0,0,0,0";
-    let report = studied(&feeder(&format!("{voltages},1,20"), &[line], loads))?;
-    let lines: Vec<&str> = report.lines().collect();
-    Ok((lines[5].to_string(), lines[8].to_string()))
-}
 
 /// Two lines of 1 Ω to N, on A and B: 600 VA at 6000 V between them take 100 mA, and each drops 10 cV.
 /// V0 has the difference 600000 and V(1) 599980; 60,000,000·599980/600000² is 99.997, so I stays at 100 and V(2) is V(1).
@@ -89,12 +61,14 @@ fn the_check_of_it() {
     assert_eq!(edited("100,0,-100,0", "-100,0,100,0"), (53, 6));
     // Drawn by the first phase's voltage alone is 299990·100.
     assert_eq!(edited("59998000", "29999000"), (55, 0));
-    // A difference of 0 takes 0 in a Z row, so that the current differs; in a P row it is 30.
+    // A difference of 0 takes 0 in a Z row, and by request S-3 in a P row, so that the current differs; in an I row it is 30.
     assert_eq!(edited("299990,0,-299990,0", "299990,0,299990,0"), (53, 6));
-    let (feeder, report) = example(1);
-    let feeder = String::from_utf8(feeder).unwrap().replace("AB,Z", "AB,P");
-    let report = report.replace("299990,0,-299990,0", "299990,0,299990,0");
-    assert_eq!(check(feeder.as_bytes(), report.as_bytes()), Answer::Refused { number: 30, value: 0 });
+    for (kind, number, value) in [("P", 53, 6), ("I", 30, 0)] {
+        let (feeder, report) = example(1);
+        let feeder = String::from_utf8(feeder).unwrap().replace("AB,Z", &format!("AB,{kind}"));
+        let report = report.replace("299990,0,-299990,0", "299990,0,299990,0");
+        assert_eq!(check(feeder.as_bytes(), report.as_bytes()), Answer::Refused { number, value });
+    }
     // Phase C is absent at N.
     assert_eq!(edited("-299990,0,0,0", "-299990,0,1,0"), (52, 3));
     // Both phases off by tol, each its own way: the difference is 599982, still 100 mA, drawn 59,998,200.
@@ -169,18 +143,20 @@ fn weights_go_by_the_difference() {
 fn equal_phases_are_zero_voltage() {
     for (voltages, word) in [("5,7,5,7,0,0", "AB"), ("0,0,5,7,5,7", "BC"), ("5,7,0,0,5,7", "CA"), ("0,0,0,0,0,1", "AB")]
     {
-        for kind in ["P", "I"] {
-            assert_eq!(flow(voltages, &[&format!("N,{word},{kind},1,0,0")]), Err((30, 1)));
-            assert_eq!(flow(voltages, &[&format!("S,{word},{kind},1,0,0")]), Err((30, 1)));
+        for node in ["N", "S"] {
+            assert_eq!(flow(voltages, &[&format!("{node},{word},I,1,0,0")]), Err((30, 1)));
+            // A P row counts as an impedance there (request S-3), and takes 0 as a Z row does.
+            for kind in ["P", "Z"] {
+                let (branch, totals) = flow(voltages, &[&format!("{node},{word},{kind},1,3000000,3000000")]).unwrap();
+                assert_eq!((branch.as_str(), totals.as_str()), ("S,N,0,0,0,0,0,0,0,0", "1,0,0,0,0,0,0"));
+            }
         }
-        let (branch, _) = flow(voltages, &[&format!("N,{word},Z,1,3000000,3000000")]).unwrap();
-        assert_eq!(branch, "S,N,0,0,0,0,0,0,0,0");
     }
     // One of the two phases at 0 is no zero voltage.
     assert!(flow("5,7,0,0,0,0", &["N,AB,P,1,0,0", "N,CA,I,1,0,0"]).is_ok());
-    assert_eq!(flow("5,7,0,0,0,0", &["N,BC,P,1,0,0"]), Err((30, 1)));
+    assert_eq!(flow("5,7,0,0,0,0", &["N,BC,I,1,0,0"]), Err((30, 1)));
     // 30 of a later row comes before 31.
-    assert_eq!(flow("2000000,0,0,0,0,0", &["N,AB,Z,1,3000000,0", "N,BC,P,1,0,0"]), Err((30, 1)));
+    assert_eq!(flow("2000000,0,0,0,0,0", &["N,AB,Z,1,3000000,0", "N,BC,I,1,0,0"]), Err((30, 1)));
 }
 
 #[test]

@@ -6,7 +6,7 @@ use Prim.Native.Nat.{_*_, _+_, _≤_, ℕ}
 use lib.IntN.{natAbs, pos, ℤ}
 use lib.ListN.{getD}
 use Rattle.answers.specs.Answers.{good}
-use Rattle.equations.specs.Equations.{at, loadCurrent, rated, voltageOn, weight, zOf, zero3}
+use Rattle.equations.specs.Equations.{at, kindAt, loadCurrent, rated, voltageOn, weight, zOf, zero3}
 use Rattle.feeder.specs.Feeder.{Feeder, abc, branchAt, delta, has, parent, reading, rowsOf}
 use Rattle.feeder.specs.declared.Device.{Device}
 use Rattle.feeder.specs.declared.Device.the-variants.{Line, Regulator, Transformer}
@@ -27,8 +27,9 @@ ratingOf Power vn s u = s
 ratingOf Current vn s u = rndPair (scaled (pos (square u)) s) (weight Current vn u)
 ratingOf Impedance vn s u = rndPair (scaled (pos (square u)) s) (weight Impedance vn u)
 
+-- 02: "the power account uses the rating that the rule picks"
 unfoldable pub rating : List Three → Load → Pair
-rating v l = ratingOf (l .kind) (l .vn) (rated l) (voltageOn l v)
+rating v l = ratingOf (kindAt l (voltageOn l v)) (l .vn) (rated l) (voltageOn l v)
 
 -- "A line's exact loss is rnd(sum over i, j of conj(I_i)·z_ij·I_j / 10,000,000); a transformer's the same with z_i alone; a regulator's 0"
 unfoldable pub exactLoss : Device → Three → Pair

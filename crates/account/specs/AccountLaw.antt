@@ -11,7 +11,7 @@ use Rattle.account.specs.Account.{accounted, allowance, branchAllowance,
 use Rattle.account.specs.Powers.{Part, part, part-add, part-sub, part-sum, power-add-right, power-cond, power-laws, power-part, power-sum-right, powerOf}
 use Rattle.account.specs.RowBounds.{branch-row-near, given, load-row-near}
 use Rattle.account.specs.Sums.{exchange, first-node, near-sum, sum, sum-add, sum-cong, sum-eq, sum-sub, sum-swap}
-use Rattle.equations.specs.Equations.{at, farVoltage, loadCurrent, mix, nearCurrent, power, signAt, voltageOn, weight, zero3}
+use Rattle.equations.specs.Equations.{at, farVoltage, kindAt, loadCurrent, mix, nearCurrent, power, signAt, voltageOn, weight, zero3}
 use Rattle.equations.specs.Meets.{at-taken, takenAt}
 use Rattle.equations.specs.ThreeLaws.{Close3}
 use Rattle.feeder.specs.Feeder.{Feeder, abc, branchAt, has, parent, phaseSigns, rowCount, rowsOf}
@@ -38,7 +38,7 @@ pub record BranchKnown (f : Feeder) (v i u : List Three) (k : ℕ) : Type 0 wher
 
 pub record LoadKnown (f : Feeder) (v : List Three) (l : Load) : Type 0 where
   pub node-known : l .node < suc (rowCount f)
-  pub weighs : 0 < weight (l .kind) (l .vn) (voltageOn l v)
+  pub weighs : 0 < weight (kindAt l (voltageOn l v)) (l .vn) (voltageOn l v)
 
 -- and of the whole
 pub record Known (f : Feeder) (r : Reported) : Type 0 where

@@ -9,7 +9,7 @@ use lib.ListN.{getD}
 use Rattle.account.specs.Account.{branchAllowance, exactLoss, loadAllowance, over, rating, ratingOf}
 use Rattle.account.specs.Powers.{NearPair, Part, part, part-rounded, part-sum, power-laws, power-near-left, power-near-right, power-sub-left, power-sum-left, power-zero-left, powerOf, reactive, real, rounded-near}
 use Rattle.account.specs.Sums.{near-sums, nsum-le, nsum-mul, sum, sum-add, sum-cong, sum-mul, sum-sub, sum-swap, sum-zero}
-use Rattle.equations.specs.Equations.{at, currentAt, dropOf, each, loadCurrent, masked, minus3, mix, rated, rowAt, signAt, signTable, takenOf, tapDivisor, throughOf, voltageOn, weight, zOf, zero3}
+use Rattle.equations.specs.Equations.{at, currentAt, dropOf, each, kindAt, loadCurrent, masked, minus3, mix, rated, rowAt, signAt, signTable, takenOf, tapDivisor, throughOf, voltageOn, weight, zOf, zero3}
 use Rattle.equations.specs.ThreeLaws.{Close3, at-each, at-masked, at-minus, at-zero, transposed}
 use Rattle.feeder.specs.Feeder.{abc, delta, has, phaseSigns}
 use Rattle.feeder.specs.RowFacts.{Sized}
@@ -81,12 +81,12 @@ mix-near tol s u x c = record { near-re = sizes (λ y. y .re) (λ p. c p .re); n
         (omega (arith, nsum-mul (2 * tol) (λ p. natAbs (signAt s p)) abc))
 
 -- "load row: 2·tol·|I| + |V| + 1", or "4·tol·|I| + |V| + 1". v are the reported voltages, u others that are close at the load's node
-pub load-row-near : (q : Part) (tol : ℕ) (v u : List Three) (l : Load) → 0 < weight (l .kind) (l .vn) (voltageOn l v) → Close3 tol (getD u (l .node) zero3) (getD v (l .node) zero3)
+pub load-row-near : (q : Part) (tol : ℕ) (v u : List Three) (l : Load) → 0 < weight (kindAt l (voltageOn l v)) (l .vn) (voltageOn l v) → Close3 tol (getD u (l .node) zero3) (getD v (l .node) zero3)
     → Near (powerOf q (voltageOn l u) (loadCurrent v l)) (part q (rating v l)) (loadAllowance tol v l)
 unfolding loadAllowance loadCurrent currentAt rating voltageOn
 load-row-near q tol v u l w c =
     let n = rw (turns-phase (l .phase)) at (mix-near tol (phaseSigns (l .phase)) (getD u (l .node) zero3) (getD v (l .node) zero3) c) in
-    near-mono (near-trans (power-near-left q (loadCurrent v l) n) (load-near q (l .kind) (l .vn) (voltageOn l v) (rated l) w)) (omega arith)
+    near-mono (near-trans (power-near-left q (loadCurrent v l) n) (load-near q (kindAt l (voltageOn l v)) (l .vn) (voltageOn l v) (rated l) w)) (omega arith)
 
 -- ---- a drop and its loss: each drop rounded, against the loss rounded once
 ruleset sums = (power-laws, sum-mul, nsum-mul)

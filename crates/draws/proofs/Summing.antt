@@ -11,7 +11,7 @@ use Rattle.draws.specs.SumLaws.{any-next, atPlace, csum-next, csum-same,
 use Rattle.draws.specs.declared.Draws.{Draws}
 use Rattle.draws.specs.declared.Row.{Row}
 use Rattle.draws.specs.declared.State.the-variants.{Fine}
-use Rattle.equations.specs.Equations.{beyond, drawnPower, each, loadBeyond, loadCurrent, loadsAt, plus3, signAt, sum3, voltageOn, zero3, zeroVoltage}
+use Rattle.equations.specs.Equations.{beyond, drawnPower, each, kindAt, loadBeyond, loadCurrent, loadsAt, plus3, signAt, sum3, voltageOn, zero3, zeroVoltage}
 use Rattle.equations.specs.Limits.{drawn-within}
 use Rattle.equations.specs.Sizes.{Within3, beyond-false, spread-within, within-zero, within3-zero}
 use Rattle.equations.specs.SumSizes.{csum-within, sum3-within}
@@ -42,7 +42,7 @@ spreadOf l i = each (λ p. scaled (signAt (phaseSigns (l .phase)) p) i)
 
 -- 30 and 31, of one row
 abbrev pub lacking : List Three → Load → Bool
-lacking v l = lacksVoltage (l .kind) (voltageOn l v)
+lacking v l = lacksVoltage (kindAt l (voltageOn l v)) (voltageOn l v)
 
 abbrev pub large : List Three → Load → Bool
 large v l = beyond (loadCurrent v l)

@@ -3,7 +3,7 @@
 use mathlib.Core.Bool.{Bool, true, false, cond, not, _&&_}
 use mathlib.Core.List.{List, [], _∷_}
 use Prim.Native.Nat.{ℕ, zero, suc, _*_}
-use lib.Dec.{eqb}
+use lib.Dec.{eqb, ltb}
 use lib.IntN.{ℤ, pos, negsuc, natAbs, _-ℤ_}
 use lib.ListN.{getD}
 use Rattle.integers.specs.declared.Pair.{Pair}
@@ -94,9 +94,20 @@ weight Power vn u = square u
 weight Current vn u = root (square u) * natAbs vn
 weight Impedance vn u = natAbs vn * natAbs vn
 
+-- 02: "A P row with 100·(re² + im²) < 49·vn² takes the Z row's current and rating. At exactly 70 per cent it is still constant power": the kind as which a row
+-- acts at the voltage u
+unfoldable pub actsAs : LoadKind → ℤ → Pair → LoadKind
+actsAs Power vn u = cond (ltb (100 * square u) (49 * (natAbs vn * natAbs vn))) Impedance Power
+actsAs Current vn u = Current
+actsAs Impedance vn u = Impedance
+
+-- the same of row l. Current, rating and 30 go by it, each at the voltage that it is worked from
+abbrev pub kindAt : Load → Pair → LoadKind
+kindAt l u = actsAs (l .kind) (l .vn) u
+
 -- "Load current at voltage V: rnd(conj(S)·V / w)"
 unfoldable pub currentAt : Load → Pair → Pair
-currentAt l u = rndPair (u ·* rated l) (weight (l .kind) (l .vn) u)
+currentAt l u = rndPair (u ·* rated l) (weight (kindAt l u) (l .vn) u)
 
 unfoldable pub loadCurrent : List Three → Load → Pair
 loadCurrent v l = currentAt l (voltageOn l v)
@@ -206,8 +217,9 @@ needsVoltage Power = true
 needsVoltage Current = true
 needsVoltage Impedance = false
 
+-- by the kind as which a row acts there. 02: "A P row at zero voltage no longer meets 30; an I row still does" (`zero-voltage-is`, LowVoltage)
 unfoldable pub zeroVoltage : Feeder → List Three → Bool
-zeroVoltage f v = any (λ l. needsVoltage (l .kind) && within 0 (voltageOn l v)) (f .loads)
+zeroVoltage f v = any (λ l. needsVoltage (kindAt l (voltageOn l v)) && within 0 (voltageOn l v)) (f .loads)
 
 -- 31: "load current re or im beyond ±2,000,000"
 unfoldable pub loadBeyond : Feeder → List Three → Bool

@@ -3,6 +3,7 @@ pub mod Equations
 -- Laws
 pub mod ThreeLaws
 pub mod Weight
+pub mod LowVoltage
 pub mod Sizes
 pub mod SumSizes
 pub mod Limits

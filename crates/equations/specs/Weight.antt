@@ -14,7 +14,7 @@ use Rattle.integers.specs.Root.{root}
 use Rattle.integers.specs.RootLaws.{root-pos}
 use Rattle.integers.specs.declared.Pair.{Pair}
 
-mul-pos : (a b : ℕ) → 0 < a → 0 < b → 0 < a * b
+pub mul-pos : (a b : ℕ) → 0 < a → 0 < b → 0 < a * b
 mul-pos zero b p q = absurd (omega arith)
 mul-pos (suc a) zero p q = absurd (omega arith)
 mul-pos (suc a) (suc b) p q = omega arith

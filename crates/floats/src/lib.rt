@@ -1,7 +1,4 @@
-// The second solver's own work, in floats: phasors, a branch's equations over them, the solution, how far a report may lie from it, and how far it does. It shares
-// nothing with the crates loads and devices.
-pub mod bound;
-pub mod compare;
+// The second solver's own work, in floats: phasors, a branch's equations over them, and the solution. It shares nothing with the crates loads and devices.
 pub mod component;
 pub mod phasor;
 pub mod solver;

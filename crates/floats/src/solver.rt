@@ -94,10 +94,20 @@ pub fn on_phases(terminals: Terminals, first: Phasor, second: Phasor) -> Phasors
     }
 }
 
+// Whether the voltage across a load is below 70 per cent of vn, where constant power acts as an impedance.
+pub fn low(vn: f64, v: Phasor) -> bool {
+    100.0 * (v.re * v.re + v.im * v.im) < 49.0 * (vn * vn)
+}
+
 // By what conj(S)·V is divided: constant power, constant current and constant impedance.
 fn divisor(kind: LoadKind, vn: f64, v: Phasor) -> f64 {
     match kind {
-        LoadKind::Power => v.re * v.re + v.im * v.im,
+        LoadKind::Power => {
+            if low(vn, v) {
+                return vn * vn;
+            }
+            v.re * v.re + v.im * v.im
+        }
         LoadKind::Current => length(v) * vn,
         LoadKind::Impedance => vn * vn,
     }

@@ -4,7 +4,7 @@ use mathlib.Core.Path.{_≡_, refl}
 use Prim.Native.Nat.{ℕ}
 use Rattle.answers.specs.Answers.{Outcome, _>>_, good, refuseIf, refused}
 use Rattle.answers.specs.declared.Refusal.the-variants.{LoadBeyond, ZeroVoltage}
-use Rattle.equations.specs.Equations.{beyond, currentAt, needsVoltage}
+use Rattle.equations.specs.Equations.{beyond, currentAt, kindAt, needsVoltage}
 use Rattle.feeder.specs.declared.Load.{Load}
 use Rattle.feeder.specs.declared.LoadKind.{LoadKind}
 use Rattle.integers.specs.Pairs.{within}
@@ -12,13 +12,13 @@ use Rattle.integers.specs.declared.Pair.{Pair}
 use Rattle.loads.specs.declared.Drawn.{Drawn}
 use Rattle.loads.specs.declared.Drawn.the-variants.{AtZeroVoltage, Taken, TooLarge}
 
--- 30: "load of kind P or I at zero voltage"
+-- 30: "load of kind P or I at zero voltage", of the kind as which a row acts there
 abbrev pub lacksVoltage : LoadKind → Pair → Bool
 lacksVoltage k u = needsVoltage k && within 0 u
 
 -- 30 before 31, else the load current
 unfoldable pub drawnBy : Load → Pair → Drawn
-drawnBy l u = cond (lacksVoltage (l .kind) u) AtZeroVoltage (cond (beyond (currentAt l u)) TooLarge (Taken (currentAt l u)))
+drawnBy l u = cond (lacksVoltage (kindAt l u) u) AtZeroVoltage (cond (beyond (currentAt l u)) TooLarge (Taken (currentAt l u)))
 
 -- each case in sweep k, with 01's number and value
 abbrev pub outcomeOf : ℕ → Drawn → Outcome Pair
@@ -29,9 +29,9 @@ outcomeOf k TooLarge = refused (LoadBeyond k)
 -- ---- laws
 -- the refusals are those of 30 and 31, in their order
 pub drawn-outcome : (k : ℕ) (l : Load) (u : Pair) → outcomeOf k (drawnBy l u)
-    ≡ (refuseIf (lacksVoltage (l .kind) u) (ZeroVoltage k) >> (refuseIf (beyond (currentAt l u)) (LoadBeyond k) >> good (currentAt l u)))
+    ≡ (refuseIf (lacksVoltage (kindAt l u) u) (ZeroVoltage k) >> (refuseIf (beyond (currentAt l u)) (LoadBeyond k) >> good (currentAt l u)))
 unfolding drawnBy
-drawn-outcome k l u = go (lacksVoltage (l .kind) u) (beyond (currentAt l u))
+drawn-outcome k l u = go (lacksVoltage (kindAt l u) u) (beyond (currentAt l u))
   where
     go : (a b : Bool) → outcomeOf k (cond a AtZeroVoltage (cond b TooLarge (Taken (currentAt l u))))
         ≡ (refuseIf a (ZeroVoltage k) >> (refuseIf b (LoadBeyond k) >> good (currentAt l u)))
@@ -41,15 +41,15 @@ drawn-outcome k l u = go (lacksVoltage (l .kind) u) (beyond (currentAt l u))
 
 -- what each case says of the row
 abbrev pub Means : Load → Pair → Drawn → Type 0
-Means l u (Taken i) = (lacksVoltage (l .kind) u ≡ false) × (beyond (currentAt l u) ≡ false) × (i ≡ currentAt l u)
-Means l u AtZeroVoltage = lacksVoltage (l .kind) u ≡ true
-Means l u TooLarge = (lacksVoltage (l .kind) u ≡ false) × (beyond (currentAt l u) ≡ true)
+Means l u (Taken i) = (lacksVoltage (kindAt l u) u ≡ false) × (beyond (currentAt l u) ≡ false) × (i ≡ currentAt l u)
+Means l u AtZeroVoltage = lacksVoltage (kindAt l u) u ≡ true
+Means l u TooLarge = (lacksVoltage (kindAt l u) u ≡ false) × (beyond (currentAt l u) ≡ true)
 
 pub drawn-means : (l : Load) (u : Pair) → Means l u (drawnBy l u)
 unfolding drawnBy
-drawn-means l u = go (lacksVoltage (l .kind) u) (beyond (currentAt l u)) refl refl
+drawn-means l u = go (lacksVoltage (kindAt l u) u) (beyond (currentAt l u)) refl refl
   where
-    go : (a b : Bool) → lacksVoltage (l .kind) u ≡ a → beyond (currentAt l u) ≡ b → Means l u (cond a AtZeroVoltage (cond b TooLarge (Taken (currentAt l u))))
+    go : (a b : Bool) → lacksVoltage (kindAt l u) u ≡ a → beyond (currentAt l u) ≡ b → Means l u (cond a AtZeroVoltage (cond b TooLarge (Taken (currentAt l u))))
     go true b p q = p
     go false true p q = (p, q)
     go false false p q = (p, q, refl)

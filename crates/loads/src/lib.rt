@@ -3,9 +3,9 @@ ghost use mathlib.Core.Path.{_≡_};
 ghost use mathlib.Core.Bool.{false};
 ghost use Prim.Native.Nat.{_≤_};
 ghost use lib.IntN.{natAbs};
-ghost use Rattle.integers.specs.Pairs.{_·*_, scaled};
+ghost use Rattle.integers.specs.Pairs.{_·*_, rndPair, scaled};
 ghost use Rattle.integers.specs.PairLaws.{Within};
-ghost use Rattle.equations.specs.Equations.{each, mix, signAt, weight, currentAt};
+ghost use Rattle.equations.specs.Equations.{actsAs, each, mix, rated, signAt, weight};
 ghost use Rattle.equations.specs.Sizes.{Within3};
 ghost use Rattle.equations.specs.Limits.{LoadOk};
 ghost use Rattle.feeder.specs.Feeder.{phaseSigns};
@@ -67,7 +67,28 @@ fn weigh(kind: LoadKind, vn: i64, u: Pair) -> u64
     }
 }
 
-// Whether the row needs a voltage and has none.
+// The kind as which a row acts at the voltage u: constant power below 70 per cent of vn acts as an impedance.
+fn acts_as(kind: LoadKind, vn: i64, u: Pair) -> LoadKind
+    requires { ⌜ natAbs vn ≤ 4000000 ⌝ }
+    requires { ⌜ Within 4000000 u ⌝ }
+    ensures { λ r. ⌜ r ≡ actsAs kind vn u ⌝ }
+{
+    match kind {
+        LoadKind::Power => {
+            let n = pairs::square(u);
+            let k = whole::size(vn);
+            if 100 * n < 49 * (k * k) {
+                LoadKind::Impedance
+            } else {
+                LoadKind::Power
+            }
+        }
+        LoadKind::Current => LoadKind::Current,
+        LoadKind::Impedance => LoadKind::Impedance,
+    }
+}
+
+// Whether a row that acts as this kind needs a voltage and has none.
 fn lacks_voltage(kind: LoadKind, u: Pair) -> bool
     ensures { λ r. ⌜ r ≡ lacksVoltage kind u ⌝ }
 {
@@ -78,14 +99,13 @@ fn lacks_voltage(kind: LoadKind, u: Pair) -> bool
     }
 }
 
-// conj(S)·V / w, rounded.
-fn current_at(l: Load, u: Pair) -> Pair
+// conj(S)·V / w, rounded, of a row that acts as this kind.
+fn current_at(l: Load, kind: LoadKind, u: Pair) -> Pair
     requires { ⌜ LoadOk l ⌝ }
     requires { ⌜ Within 4000000 u ⌝ }
-    requires { ⌜ lacksVoltage (l .kind) u ≡ false ⌝ }
-    ensures { λ r. ⌜ r ≡ currentAt l u ⌝ }
+    requires { ⌜ lacksVoltage kind u ≡ false ⌝ }
+    ensures { λ r. ⌜ r ≡ rndPair (u ·* rated l) (weight kind (l .vn) u) ⌝ }
 {
-    let kind = l.kind;
     let w = weigh(kind, l.vn, u);
     let s = pairs::scale(100000, l.s);
     let n = pairs::mul_conj(u, s);
@@ -97,11 +117,12 @@ fn drawn_by(l: Load, u: Pair) -> Drawn
     requires { ⌜ Within 4000000 u ⌝ }
     ensures { λ r. ⌜ r ≡ drawnBy l u ⌝ }
 {
-    let kind = l.kind;
+    let own = l.kind;
+    let kind = acts_as(own, l.vn, u);
     if lacks_voltage(kind, u) {
         return Drawn::AtZeroVoltage;
     }
-    let i = current_at(l, u);
+    let i = current_at(l, kind, u);
     if pairs::within(i, 2000000) {
         Drawn::Taken(i)
     } else {

@@ -6,7 +6,7 @@ use Prim.Native.Nat.{_+_, _<_, _≤_, suc, zero, ℕ}
 use native.Mathlib.Omega.{arith}
 use lib.Dec.{eqb}
 use lib.ListN.{getD, length}
-use Rattle.equations.specs.Equations.{beyond, beyond3, currentAt, currentBeyond, currents, downward, drawnPower, dropOf, each, farVoltage, loadBeyond, loadCurrent, loadsAt, lossOf, lostPower, mix, nearCurrent, needsVoltage, plus3, power, signAt, sourcePower, sum3, upward, voltageBeyond, voltageOn, voltages, zero3, zeroVoltage}
+use Rattle.equations.specs.Equations.{beyond, beyond3, currentAt, currentBeyond, currents, downward, drawnPower, dropOf, each, farVoltage, kindAt, loadBeyond, loadCurrent, loadsAt, lossOf, lostPower, mix, nearCurrent, needsVoltage, plus3, power, signAt, sourcePower, sum3, upward, voltageBeyond, voltageOn, voltages, zero3, zeroVoltage}
 use Rattle.equations.specs.ThreeLaws.{sum3-cong}
 use Rattle.feeder.specs.Feeder.{Feeder, branchAt, parent, phaseSigns, rowCount, rowsOf}
 use Rattle.feeder.specs.Network.{kept}
@@ -83,7 +83,7 @@ module _ (f : Feeder) {x y : List Three} (h : Same x y) where
 
   pub zero-voltage-same : zeroVoltage f x ≡ zeroVoltage f y
   unfolding zeroVoltage
-  zero-voltage-same = λ t. any (λ l. needsVoltage (l .kind) && within 0 (on-same l t)) (f .loads)
+  zero-voltage-same = λ t. any (λ l. needsVoltage (kindAt l (on-same l t)) && within 0 (on-same l t)) (f .loads)
 
   pub load-beyond-same : loadBeyond f x ≡ loadBeyond f y
   unfolding loadBeyond

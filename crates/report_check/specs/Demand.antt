@@ -10,7 +10,7 @@ use Rattle.account.specs.AccountLaw.{BranchKnown, Known, LoadKnown, account-law
 use Rattle.account.specs.Powers.{reactive, real}
 use Rattle.answers.specs.Answers.{good}
 use Rattle.equations.specs.Absent.{absent-none}
-use Rattle.equations.specs.Equations.{at, currents, farVoltage, needsVoltage, power, sourcePower, voltageOn, voltages, zero3, zeroVoltage}
+use Rattle.equations.specs.Equations.{at, currents, farVoltage, kindAt, needsVoltage, power, sourcePower, voltageOn, voltages, zero3, zeroVoltage}
 use Rattle.equations.specs.Meets.{currents-meet, taken-same, takenAt, voltages-meet, voltages-source}
 use Rattle.equations.specs.Weight.{weight-pos}
 use Rattle.feeder.specs.Feeder.{Feeder, branchAt, parent, reading, rowCount}
@@ -49,8 +49,8 @@ module _ (s : List ℕ) (f : Feeder) (r : Reported) (e : reading s ≡ good f) (
         sized = facts .sized;
       }
 
-  load-known : (l : Load) → OfLoad f l → (needsVoltage (l .kind) && within 0 (voltageOn l v)) ≡ false → LoadKnown f v l
-  load-known l o z = record { node-known = load-node f l o; weighs = weight-pos (l .kind) (l .vn) (voltageOn l v) (o .rated) z }
+  load-known : (l : Load) → OfLoad f l → (needsVoltage (kindAt l (voltageOn l v)) && within 0 (voltageOn l v)) ≡ false → LoadKnown f v l
+  load-known l o z = record { node-known = load-node f l o; weighs = weight-pos (kindAt l (voltageOn l v)) (l .vn) (voltageOn l v) (o .rated) z }
 
   -- all that the account asks
   pub all-known : Known f r

@@ -20,45 +20,40 @@ a00163 : accountOf (bytes "source,va_re,va_im,vb_re,vb_im,vc_re,vc_im,tol,sweeps
 unfolding opened
 a00163 = refl
 
--- 00258-tie-load-own
-a00258 : accountOf (bytes "source,va_re,va_im,vb_re,vb_im,vc_re,vc_im,tol,sweeps\nS,200000,0,-360000,-623538,-360000,623538,0,20\n\nfrom,to,phases,kind,p1,p2,p3,p4,p5,p6,p7,p8,p9,p10,p11,p12\nS,N1,A,L,0,0,0,0,0,0,0,0,0,0,0,0\n\nnode,phase,kind,vn,p,q\nN1,A,Z,200000,1,-1\nN1,A,P,200000,1,-1\nN1,A,I,200000,-1,1\n") (bytes "node,va_re,va_im,vb_re,vb_im,vc_re,vc_im\nS,200000,0,-360000,-623538,-360000,623538\nN1,200000,0,0,0,0,0\n\nfrom,to,ia_re,ia_im,ib_re,ib_im,ic_re,ic_im,loss_p,loss_q\nS,N1,1,1,0,0,0,0,0,0\n\nsweeps,source_p,source_q,drawn_p,drawn_q,lost_p,lost_q\n1,200000,-200000,200000,-200000,0,0\n") ≡ good (record { differs = record { re = pos 100000; im = negsuc 99999 }; allowed = 600006 })
+-- 00272-tie-D-own
+a00272 : accountOf (bytes "source,va_re,va_im,vb_re,vb_im,vc_re,vc_im,tol,sweeps\nS,1,-1,4,-3,5,-5,0,20\n\nfrom,to,phases,kind,p1,p2,p3,p4,p5,p6,p7,p8,p9,p10,p11,p12\nS,N,ABC,D,2,1,0,0,0,0,0,0,0,0,0,0\n\nnode,phase,kind,vn,p,q\n") (bytes "node,va_re,va_im,vb_re,vb_im,vc_re,vc_im\nS,1,-1,4,-3,5,-5\nN,-2,2,2,-1,1,-1\n\nfrom,to,ia_re,ia_im,ib_re,ib_im,ic_re,ic_im,loss_p,loss_q\nS,N,0,0,0,0,0,0,0,0\n\nsweeps,source_p,source_q,drawn_p,drawn_q,lost_p,lost_q\n1,0,0,0,0,0,0\n") ≡ good (record { differs = record { re = pos 0; im = pos 0 }; allowed = 20 })
 unfolding opened
-a00258 = refl
+a00272 = refl
 
--- 00704-ex-sweeps3
-a00704 : accountOf (bytes "source,va_re,va_im,vb_re,vb_im,vc_re,vc_im,tol,sweeps\nS,720000,0,-360000,-623538,-360000,623538,1,20\n\nfrom,to,phases,kind,p1,p2,p3,p4,p5,p6,p7,p8,p9,p10,p11,p12\nS,N1,A,L,1000000,0,0,0,0,0,0,0,0,0,0,0\n\nnode,phase,kind,vn,p,q\nN1,A,P,720000,72000,0\n") (bytes "node,va_re,va_im,vb_re,vb_im,vc_re,vc_im\nS,720000,0,-360000,-623538,-360000,623538\nN1,719000,0,0,0,0,0\n\nfrom,to,ia_re,ia_im,ib_re,ib_im,ic_re,ic_im,loss_p,loss_q\nS,N1,10014,0,0,0,0,0,10024014,0\n\nsweeps,source_p,source_q,drawn_p,drawn_q,lost_p,lost_q\n3,7210080000,0,7200066000,0,10024014,0\n") ≡ good (record { differs = record { re = pos 51980; im = pos 0 }; allowed = 749044 })
+-- 00706-ex-sweeps20
+a00706 : accountOf (bytes "source,va_re,va_im,vb_re,vb_im,vc_re,vc_im,tol,sweeps\nS,720000,0,-360000,-623538,-360000,623538,1,20\n\nfrom,to,phases,kind,p1,p2,p3,p4,p5,p6,p7,p8,p9,p10,p11,p12\nS,N1,A,L,1000000,0,0,0,0,0,0,0,0,0,0,0\n\nnode,phase,kind,vn,p,q\nN1,A,P,720000,72000,0\n") (bytes "node,va_re,va_im,vb_re,vb_im,vc_re,vc_im\nS,720000,0,-360000,-623538,-360000,623538\nN1,719000,0,0,0,0,0\n\nfrom,to,ia_re,ia_im,ib_re,ib_im,ic_re,ic_im,loss_p,loss_q\nS,N1,10014,0,0,0,0,0,10024014,0\n\nsweeps,source_p,source_q,drawn_p,drawn_q,lost_p,lost_q\n20,7210080000,0,7200066000,0,10024014,0\n") ≡ good (record { differs = record { re = pos 51980; im = pos 0 }; allowed = 749044 })
 unfolding opened
-a00704 = refl
+a00706 = refl
 
--- 00948-good-own
-a00948 : accountOf (bytes "source,va_re,va_im,vb_re,vb_im,vc_re,vc_im,tol,sweeps\nME1,1507780,967226,-39296,-1822449,-1473140,944376,1000,3\n\nfrom,to,phases,kind,p1,p2,p3,p4,p5,p6,p7,p8,p9,p10,p11,p12\nME1,HJVM,ABC,L,45466372,79751379,13802234,-14736839,25415027,20709843,89849115,83333656,23800622,25030043,66070036,20926011\n\nnode,phase,kind,vn,p,q\nHJVM,C,Z,1822873,561,637\nHJVM,C,P,1822873,188,60\nME1,B,Z,1490439,23,25\nME1,A,Z,1822873,0,-272179\nHJVM,B,P,1822873,3541,2714\nME1,C,Z,1822873,18,9\nHJVM,C,Z,1822873,0,-34096\nHJVM,C,I,1822873,645,129\nME1,A,I,2000000,113657,-11801\nHJVM,C,P,1822873,84228,86124\nME1,B,P,1822873,1163,-146\nME1,B,I,1822873,697,301\n") (bytes "node,va_re,va_im,vb_re,vb_im,vc_re,vc_im\nME1,1507780,967226,-39296,-1822449,-1473140,944376\nHJVM,1525833,958416,-20006,-1826376,-1445633,914145\n\nfrom,to,ia_re,ia_im,ib_re,ib_im,ic_re,ic_im,loss_p,loss_q\nME1,HJVM,0,0,-151,-192,-2449,5482,235468768,72517224\n\nsweeps,source_p,source_q,drawn_p,drawn_q,lost_p,lost_q\n3,19512555310,-21292053217,19277305519,-21364514215,235468768,72517224\n") ≡ good (record { differs = record { re = pos 411219; im = pos 849450 }; allowed = 105956322 })
+-- 00995-moved-alltol
+a00995 : accountOf (bytes "source,va_re,va_im,vb_re,vb_im,vc_re,vc_im,tol,sweeps\nNVVF,865,-3530,-3486,1025,2701,2572,20,10\n\nfrom,to,phases,kind,p1,p2,p3,p4,p5,p6,p7,p8,p9,p10,p11,p12\nNVVF,IJ,ABC,Y,19349,63892,2438748,2658275,1161497,1949340,2353334,845243,0,0,0,0\nIJ,7,ABC,L,19240,10543,0,0,4779,-8895,9954,29808,0,0,20144,23215\n\nnode,phase,kind,vn,p,q\n7,C,P,13232,288,-78\n") (bytes "node,va_re,va_im,vb_re,vb_im,vc_re,vc_im\nNVVF,865,-3530,-3486,1025,2701,2572\nIJ,2836,-11636,-11531,3365,8755,7898\n7,2833,-11636,-11491,3365,8797,7891\n\nfrom,to,ia_re,ia_im,ib_re,ib_im,ic_re,ic_im,loss_p,loss_q\nNVVF,IJ,0,0,0,0,1373,2119,1500897,539259\nIJ,7,0,0,0,0,1373,2119,12087,13849\n\nsweeps,source_p,source_q,drawn_p,drawn_q,lost_p,lost_q\n7,30242618,-7237449,28799310,-7806500,1512984,553108\n") ≡ good (record { differs = record { re = negsuc 70542; im = pos 8884 }; allowed = 181146 })
 unfolding opened
-a00948 = refl
+a00995 = refl
 
--- 01020-tiny-own
-a01020 : accountOf (bytes "source,va_re,va_im,vb_re,vb_im,vc_re,vc_im,tol,sweeps\nS,-178,80,36,-270,-78,-221,0,5\n\nfrom,to,phases,kind,p1,p2,p3,p4,p5,p6,p7,p8,p9,p10,p11,p12\nS,N0,ABC,Y,3,7,200000,200000,600000,-67562,600000,200000,0,0,0,0\n\nnode,phase,kind,vn,p,q\nN0,C,Z,3338,-2,3\n") (bytes "node,va_re,va_im,vb_re,vb_im,vc_re,vc_im\nS,-178,80,36,-270,-78,-221\nN0,-415,187,84,-630,-181,-517\n\nfrom,to,ia_re,ia_im,ib_re,ib_im,ic_re,ic_im,loss_p,loss_q\nS,N0,0,0,0,0,-11,14,25,3\n\nsweeps,source_p,source_q,drawn_p,drawn_q,lost_p,lost_q\n2,-5265,8320,-5247,8221,25,3\n") ≡ good (record { differs = record { re = pos 102; im = pos 235 }; allowed = 1613 })
+-- 01055-good-own
+a01055 : accountOf (bytes "source,va_re,va_im,vb_re,vb_im,vc_re,vc_im,tol,sweeps\nT5N7,238608,-25815,-141660,-193733,-96948,219548,1000,10\n\nfrom,to,phases,kind,p1,p2,p3,p4,p5,p6,p7,p8,p9,p10,p11,p12\n\nnode,phase,kind,vn,p,q\nT5N7,C,P,240000,64357,-8023\nT5N7,A,I,211381,7,-2\nT5N7,A,P,240000,76,62\n") (bytes "node,va_re,va_im,vb_re,vb_im,vc_re,vc_im\nT5N7,238608,-25815,-141660,-193733,-96948,219548\n\nfrom,to,ia_re,ia_im,ib_re,ib_im,ic_re,ic_im,loss_p,loss_q\n\nsweeps,source_p,source_q,drawn_p,drawn_q,lost_p,lost_q\n1,6444088636,-796412136,6444088636,-796412136,0,0\n") ≡ good (record { differs = record { re = negsuc 6139; im = negsuc 85056 }; allowed = 75109345 })
 unfolding opened
-a01020 = refl
+a01055 = refl
 
--- 01057-hard-own
-a01057 : accountOf (bytes "source,va_re,va_im,vb_re,vb_im,vc_re,vc_im,tol,sweeps\nS,1800000,0,-900000,-1558800,-900000,1558800,0,100\n\nfrom,to,phases,kind,p1,p2,p3,p4,p5,p6,p7,p8,p9,p10,p11,p12\nS,N0,ABC,D,1756,1000,30666647,100000000,30666647,100000000,30666647,100000000,0,0,0,0\n\nnode,phase,kind,vn,p,q\nN0,A,I,1800000,587575,294231\nN0,B,P,1800000,643434,-133451\nN0,C,Z,1800000,624268,205195\n") (bytes "node,va_re,va_im,vb_re,vb_im,vc_re,vc_im\nS,1800000,0,-900000,-1558800,-900000,1558800\nN0,1158911,-936871,-1618559,-489360,238474,1544954\n\nfrom,to,ia_re,ia_im,ib_re,ib_im,ic_re,ic_im,loss_p,loss_q\nS,N0,15109,-33234,-34140,-18567,14379,28257,11801377790,38482657655\n\nsweeps,source_p,source_q,drawn_p,drawn_q,lost_p,lost_q\n9,171875660400,64974283200,160074291317,26491363430,11801377790,38482657655\n") ≡ good (record { differs = record { re = negsuc 25631; im = pos 338194 }; allowed = 12992105 })
+-- 01106-moved--tol
+a01106 : accountOf (bytes "source,va_re,va_im,vb_re,vb_im,vc_re,vc_im,tol,sweeps\nS,-11,-12,-33,25,-14,2,0,50\n\nfrom,to,phases,kind,p1,p2,p3,p4,p5,p6,p7,p8,p9,p10,p11,p12\nS,N1,ABC,D,9,2,-7680,-2560,2560,2560,2191,-7680,0,0,0,0\nN1,N2,ABC,Y,2,2,5000000,-5000000,8511448,-5000000,15000000,-8126950,0,0,0,0\nS,N0,ABC,D,7,7,7500000,2500000,2499995,3291580,-2499995,2499995,0,0,0,0\n\nnode,phase,kind,vn,p,q\nN1,B,Z,48,2,3\nN0,A,I,147842,2,-1\nS,B,I,41417,2,-1\n") (bytes "node,va_re,va_im,vb_re,vb_im,vc_re,vc_im\nS,-11,-12,-33,25,-14,2\nN1,1,-3,-5,8,4,-5\nN2,1,-3,-5,8,4,-5\nN0,2,-13,-22,37,19,-23\n\nfrom,to,ia_re,ia_im,ib_re,ib_im,ic_re,ic_im,loss_p,loss_q\nS,N1,0,0,608,1345,0,0,0,0\nN1,N2,0,0,0,0,0,0,0,0\nS,N0,1,-1,0,0,0,0,2,0\n\nsweeps,source_p,source_q,drawn_p,drawn_q,lost_p,lost_q\n46,8300,11470,7925,11486,2,0\n") ≡ good (record { differs = record { re = negsuc 205; im = negsuc 567 }; allowed = 4222 })
 unfolding opened
-a01057 = refl
+a01106 = refl
 
--- 01097-tiny-own
-a01097 : accountOf (bytes "source,va_re,va_im,vb_re,vb_im,vc_re,vc_im,tol,sweeps\nS,188217,54420,-138000,57949,142449,-191838,0,20\n\nfrom,to,phases,kind,p1,p2,p3,p4,p5,p6,p7,p8,p9,p10,p11,p12\nS,N0,ABC,L,-98039,-32680,32680,-32680,32680,-32680,-32680,38709,-32680,15302,32680,-34378\n\nnode,phase,kind,vn,p,q\nS,A,Z,34108,0,-2\nS,B,Z,1948,-2,0\nN0,A,P,3226,-2,-1\nN0,C,Z,26843,-3,2\nS,C,Z,523,0,0\nS,A,Z,339,2,3\n") (bytes "node,va_re,va_im,vb_re,vb_im,vc_re,vc_im\nS,188217,54420,-138000,57949,142449,-191838\nN0,188217,54419,-138000,57949,142449,-191839\n\nfrom,to,ia_re,ia_im,ib_re,ib_im,ic_re,ic_im,loss_p,loss_q\nS,N0,-1,0,0,0,-113,40,40,-114\n\nsweeps,source_p,source_q,drawn_p,drawn_q,lost_p,lost_q\n2,65601678141,100218761617,65601678101,100218761731,40,-114\n") ≡ good (record { differs = record { re = pos 153742; im = pos 316437 }; allowed = 1592595 })
+-- 01139-moved-rand
+a01139 : accountOf (bytes "source,va_re,va_im,vb_re,vb_im,vc_re,vc_im,tol,sweeps\n6I0G,719903,11840,-360000,-623538,-360000,623538,20,50\n\nfrom,to,phases,kind,p1,p2,p3,p4,p5,p6,p7,p8,p9,p10,p11,p12\n6I0G,XIT,B,L,0,0,0,0,0,0,0,1,0,0,0,0\nXIT,CCF,B,R,0,11,0,0,0,0,0,0,0,0,0,0\n\nnode,phase,kind,vn,p,q\nXIT,B,Z,626793,836,-70\nXIT,B,P,720000,-13911,21713\nCCF,B,I,773154,8313,8079\n6I0G,A,Z,720000,0,-201\nCCF,B,P,862951,46089,7697\n6I0G,A,I,787584,910,-910\nXIT,B,P,720000,210,-50\nCCF,B,P,773154,-7,1\n6I0G,C,I,720000,-79559,131510\n6I0G,B,Z,720000,1574,1480\n6I0G,C,Z,578538,0,-11743\nCCF,B,Z,798572,875,-48\nCCF,B,P,680808,699,827\n6I0G,C,Z,581601,0,-1723\nXIT,B,P,720000,923,-124\n6I0G,B,P,720000,1339,459\nXIT,B,P,720000,158933,32871\nCCF,B,P,773154,-2665,68791\nCCF,B,P,773154,31704,4154\nXIT,B,Z,720000,13,-2\n6I0G,B,P,725391,75069,75130\nXIT,B,Z,816960,0,-7949\nXIT,B,I,720000,703,67\nCCF,B,P,773154,233,36\nCCF,B,Z,790174,0,-1389\n") (bytes "node,va_re,va_im,vb_re,vb_im,vc_re,vc_im\n6I0G,719903,11840,-360000,-623538,-360000,623538\nXIT,0,0,-360017,-623518,0,0\nCCF,0,0,-386569,-669589,0,0\n\nfrom,to,ia_re,ia_im,ib_re,ib_im,ic_re,ic_im,loss_p,loss_q\n6I0G,XIT,0,0,-32602,-18574,0,0,0,0\nXIT,CCF,0,0,-15390,-3839,0,0,0,0\n\nsweeps,source_p,source_q,drawn_p,drawn_q,lost_p,lost_q\n39,23244869564,32313190537,23245119261,32312890664,0,0\n") ≡ good (record { differs = record { re = pos 3341441; im = negsuc 484377 }; allowed = 30276542 })
 unfolding opened
-a01097 = refl
+a01139 = refl
 
--- 01128-good-own
-a01128 : accountOf (bytes "source,va_re,va_im,vb_re,vb_im,vc_re,vc_im,tol,sweeps\nMLR4,-5390,-10721,-6496,9886,11980,692,5,100\n\nfrom,to,phases,kind,p1,p2,p3,p4,p5,p6,p7,p8,p9,p10,p11,p12\n\nnode,phase,kind,vn,p,q\nMLR4,A,P,10171,35,-2\nMLR4,C,P,12000,0,0\nMLR4,B,P,12000,38,7\nMLR4,A,Z,12000,0,-5\nMLR4,A,Z,10361,0,-11\nMLR4,A,I,9970,1,0\nMLR4,A,Z,12000,20,10\nMLR4,B,P,12000,10,-1\n") (bytes "node,va_re,va_im,vb_re,vb_im,vc_re,vc_im\nMLR4,-5390,-10721,-6496,9886,11980,692\n\nfrom,to,ia_re,ia_im,ib_re,ib_im,ic_re,ic_im,loss_p,loss_q\n\nsweeps,source_p,source_q,drawn_p,drawn_q,lost_p,lost_q\n1,10413514,-566945,10413514,-566945,0,0\n") ≡ good (record { differs = record { re = negsuc 6737; im = pos 8543 }; allowed = 140259 })
+-- 01197-moved-rand
+a01197 : accountOf (bytes "source,va_re,va_im,vb_re,vb_im,vc_re,vc_im,tol,sweeps\nFC15,720000,771,-437679,-603937,-354990,614861,1,10\n\nfrom,to,phases,kind,p1,p2,p3,p4,p5,p6,p7,p8,p9,p10,p11,p12\nFC15,LXN,ABC,L,3237561,1699840,0,0,611455,1652882,4318510,2279904,1515406,1889852,3252844,2044070\n\nnode,phase,kind,vn,p,q\nFC15,C,P,843458,1897,1746\nLXN,C,Z,720000,0,-27265\nFC15,C,Z,720000,100445,24552\nFC15,B,P,856902,10,14\nLXN,B,I,641406,237,25\nLXN,B,P,720000,19941,-1524\nFC15,B,Z,720000,490,-141\nLXN,C,Z,603393,43661,-1002\nLXN,B,I,720000,2132,433\nLXN,B,Z,720000,0,-7834\nFC15,C,I,714344,61,-16\nLXN,B,Z,720000,0,-1338\nFC15,A,P,720000,39470,-2178\nLXN,B,I,766620,5,4\nLXN,B,I,720000,9,1\nFC15,C,Z,859270,768,187\nLXN,A,Z,613035,687,824\nLXN,B,P,720000,48726,35296\nFC15,A,Z,720000,0,-198\nFC15,C,Z,720000,-394,38\nLXN,A,Z,720000,746,383\nFC15,C,Z,720000,24,11\nLXN,C,P,720000,730,402\nFC15,A,Z,720000,12511,-2024\nFC15,A,Z,720000,0,-5800\n") (bytes "node,va_re,va_im,vb_re,vb_im,vc_re,vc_im\nFC15,720000,771,-437679,-603937,-354990,614861\nLXN,721274,1719,-433205,-598911,-351262,617044\n\nfrom,to,ia_re,ia_im,ib_re,ib_im,ic_re,ic_im,loss_p,loss_q\nFC15,LXN,236,-211,-8336,-5851,-7629,5573,82886685,52648246\n\nsweeps,source_p,source_q,drawn_p,drawn_q,lost_p,lost_q\n7,28717373412,1457012043,28634496605,1404354972,82886685,52648246\n") ≡ good (record { differs = record { re = pos 917266; im = negsuc 649407 }; allowed = 23542256 })
 unfolding opened
-a01128 = refl
-
--- 01167-tiny-own
-a01167 : accountOf (bytes "source,va_re,va_im,vb_re,vb_im,vc_re,vc_im,tol,sweeps\nS,0,-2,2,-3,2,-1,0,20\n\nfrom,to,phases,kind,p1,p2,p3,p4,p5,p6,p7,p8,p9,p10,p11,p12\nS,N1,BC,L,0,0,0,0,0,0,4212,-6354,12637,4212,1424,12637\nN3,N4,B,R,0,12,0,0,0,0,0,0,0,0,0,0\nS,N0,ABC,D,8,9,-4999990,5000000,5000000,-15000000,4999990,5000000,0,0,0,0\nS,N3,B,R,0,12,0,0,0,0,0,0,0,0,0,0\nN1,N2,C,R,0,0,9,0,0,0,0,0,0,0,0,0\n\nnode,phase,kind,vn,p,q\nN4,B,Z,3539,1,0\nN1,C,I,337,-3,1\nS,A,P,5110,1,3\n") (bytes "node,va_re,va_im,vb_re,vb_im,vc_re,vc_im\nS,0,-2,2,-3,2,-1\nN1,0,0,3,-2,2,0\nN4,0,0,2,-3,0,0\nN0,-2,-1,2,-1,0,2\nN3,0,0,2,-3,0,0\nN2,0,0,0,0,2,0\n\nfrom,to,ia_re,ia_im,ib_re,ib_im,ic_re,ic_im,loss_p,loss_q\nS,N1,0,0,0,0,-890,-297,297,890\nN3,N4,0,0,0,0,0,0,0,0\nS,N0,0,0,0,0,0,0,0,0\nS,N3,0,0,0,0,0,0,0,0\nN1,N2,0,0,0,0,0,0,0,0\n\nsweeps,source_p,source_q,drawn_p,drawn_q,lost_p,lost_q\n3,98517,301484,98220,300594,297,890\n") ≡ good (record { differs = record { re = pos 172; im = negsuc 220 }; allowed = 1223 })
-unfolding opened
-a01167 = refl
+a01197 = refl
 
 -- S-1, 00002-P-AB-own
 a1-00002 : accountOf (bytes "source,va_re,va_im,vb_re,vb_im,vc_re,vc_im,tol,sweeps\nS,720000,0,-360000,-623538,-360000,623538,1,20\n\nfrom,to,phases,kind,p1,p2,p3,p4,p5,p6,p7,p8,p9,p10,p11,p12\nS,N1,ABC,L,300000,600000,100000,200000,90000,180000,300000,600000,80000,170000,300000,600000\n\nnode,phase,kind,vn,p,q\nN1,AB,P,1247077,90000,30000\n") (bytes "node,va_re,va_im,vb_re,vb_im,vc_re,vc_im\nS,720000,0,-360000,-623538,-360000,623538\nN1,719912,-329,-359912,-623209,-360006,623529\n\nfrom,to,ia_re,ia_im,ib_re,ib_im,ic_re,ic_im,loss_p,loss_q\nS,N1,7456,1523,-7456,-1523,0,0,2314390,4638000\n\nsweeps,source_p,source_q,drawn_p,drawn_q,lost_p,lost_q\n2,9002128374,3004259328,8999813984,2999621328,2314390,4638000\n") ≡ good (record { differs = record { re = negsuc 188084; im = negsuc 373588 }; allowed = 1756580 })
@@ -90,22 +85,82 @@ a1-00254 : accountOf (bytes "source,va_re,va_im,vb_re,vb_im,vc_re,vc_im,tol,swee
 unfolding opened
 a1-00254 = refl
 
--- S-1, 00299-moved-tol
-a1-00299 : accountOf (bytes "source,va_re,va_im,vb_re,vb_im,vc_re,vc_im,tol,sweeps\nQ8,12232,0,-6000,-10392,-6463,11195,0,20\n\nfrom,to,phases,kind,p1,p2,p3,p4,p5,p6,p7,p8,p9,p10,p11,p12\nQ8,O,ABC,R,8,-1,-9,0,0,0,0,0,0,0,0,0\nO,2V0,BC,L,0,0,0,0,0,0,1,0,0,0,0,0\nQ8,JG,ABC,L,0,1,0,0,0,0,0,0,0,0,1,0\n2V0,OAZ,BC,L,0,0,0,0,0,0,53085145,-25451697,18313565,9598616,96564987,-21151903\n\nnode,phase,kind,vn,p,q\nQ8,A,P,12000,0,0\nO,CA,Z,18500,0,-5\nJG,C,I,12084,1,0\n") (bytes "node,va_re,va_im,vb_re,vb_im,vc_re,vc_im\nQ8,12232,0,-6000,-10392,-6463,11195\nO,12876,0,-5963,-10327,-6119,10599\n2V0,0,0,-5963,-10327,-6119,10599\nJG,12232,0,-6000,-10392,-6463,11195\nOAZ,0,0,-5963,-10327,-6119,10599\n\nfrom,to,ia_re,ia_im,ib_re,ib_im,ic_re,ic_im,loss_p,loss_q\nQ8,O,15,28,0,0,-15,-28,0,0\nO,2V0,0,0,0,0,0,0,0,0\nQ8,JG,0,0,0,0,-4,7,0,0\n2V0,OAZ,0,0,0,0,0,0,0,0\n\nsweeps,source_p,source_q,drawn_p,drawn_q,lost_p,lost_q\n16,88146,-685498,92370,-690384,0,0\n") ≡ good (record { differs = record { re = negsuc 18832; im = pos 5735 }; allowed = 105869 })
+-- S-1, 00307-rand-own
+a1-00307 : accountOf (bytes "source,va_re,va_im,vb_re,vb_im,vc_re,vc_im,tol,sweeps\nS,146812,-99074,-39682,83259,125740,-35673,2,5\n\nfrom,to,phases,kind,p1,p2,p3,p4,p5,p6,p7,p8,p9,p10,p11,p12\nS,N0,ABC,Y,3,9,2430656,4999990,5000000,-5000000,-4999990,-4999990,0,0,0,0\nN0,N1,ABC,D,8,9,-9318124,-8768649,4999990,5000000,-5000000,5000000,0,0,0,0\n\nnode,phase,kind,vn,p,q\nN0,C,Z,1270636,-2,2\n") (bytes "node,va_re,va_im,vb_re,vb_im,vc_re,vc_im\nS,146812,-99074,-39682,83259,125740,-35673\nN0,440436,-297222,-119046,249777,377220,-107019\nN1,71118,-213978,-629417,615374,558299,-401396\n\nfrom,to,ia_re,ia_im,ib_re,ib_im,ic_re,ic_im,loss_p,loss_q\nS,N0,0,0,0,0,0,0,0,0\nN0,N1,0,0,0,0,0,0,0,0\n\nsweeps,source_p,source_q,drawn_p,drawn_q,lost_p,lost_q\n1,0,0,0,0,0,0\n") ≡ good (record { differs = record { re = pos 19046; im = negsuc 19045 }; allowed = 2605226 })
 unfolding opened
-a1-00299 = refl
+a1-00307 = refl
 
--- S-1, 00356-moved-tol
-a1-00356 : accountOf (bytes "source,va_re,va_im,vb_re,vb_im,vc_re,vc_im,tol,sweeps\nQQ,240000,0,-118573,-205375,-126184,204151,20,5\n\nfrom,to,phases,kind,p1,p2,p3,p4,p5,p6,p7,p8,p9,p10,p11,p12\nQQ,79EY2QFL,ABC,D,416,240,20850676,53537436,76689927,51808490,44381944,26745421,0,0,0,0\nQQ,3XU,AB,L,684783,1440915,0,0,0,0,1382197,1332006,0,0,0,0\nQQ,EYR5N3NJ,BC,L,0,0,0,0,0,0,40354683,50171551,22668233,20707507,28488129,36193183\n\nnode,phase,kind,vn,p,q\n3XU,AB,P,415692,3074,-252\nQQ,BC,P,412568,17201,4584\nEYR5N3NJ,BC,Z,415692,119,114\n") (bytes "node,va_re,va_im,vb_re,vb_im,vc_re,vc_im\nQQ,240000,0,-118573,-205375,-126184,204151\n79EY2QFL,211260,-117779,-206869,-118486,-4391,236265\n3XU,240019,-118,-118544,-205235,0,0\nEYR5N3NJ,0,0,-118612,-205247,-126134,204094\n\nfrom,to,ia_re,ia_im,ib_re,ib_im,ic_re,ic_im,loss_p,loss_q\nQQ,79EY2QFL,0,0,0,0,0,0,0,0\nQQ,3XU,616,422,-616,-422,0,0,115036,154708\nQQ,EYR5N3NJ,0,0,-26,-29,26,29,3571,6811\n\nsweeps,source_p,source_q,drawn_p,drawn_q,lost_p,lost_q\n5,2039504255,444496575,2039386168,444334476,118607,161519\n") ≡ good (record { differs = record { re = pos 342393; im = pos 77103 }; allowed = 2802595 })
+-- S-1, 00365-rand-own
+a1-00365 : accountOf (bytes "source,va_re,va_im,vb_re,vb_im,vc_re,vc_im,tol,sweeps\n783D,1903,0,-951,-1648,-1060,1581,1,50\n\nfrom,to,phases,kind,p1,p2,p3,p4,p5,p6,p7,p8,p9,p10,p11,p12\n783D,0EHXJPQF,AB,L,14750954,17995712,2827559,5964553,0,0,18530397,6397361,0,0,0,0\n0EHXJPQF,G,B,L,0,0,0,0,0,0,0,-1,0,0,0,0\n\nnode,phase,kind,vn,p,q\nG,B,Z,1903,0,0\n783D,C,P,1903,0,0\n") (bytes "node,va_re,va_im,vb_re,vb_im,vc_re,vc_im\n783D,1903,0,-951,-1648,-1060,1581\n0EHXJPQF,1903,0,-951,-1648,0,0\nG,0,0,-951,-1648,0,0\n\nfrom,to,ia_re,ia_im,ib_re,ib_im,ic_re,ic_im,loss_p,loss_q\n783D,0EHXJPQF,0,0,0,0,0,0,0,0\n0EHXJPQF,G,0,0,0,0,0,0,0,0\n\nsweeps,source_p,source_q,drawn_p,drawn_q,lost_p,lost_q\n1,0,0,0,0,0,0\n") ≡ good (record { differs = record { re = pos 0; im = pos 0 }; allowed = 5244 })
 unfolding opened
-a1-00356 = refl
+a1-00365 = refl
 
--- S-1, 00418-rand-own
-a1-00418 : accountOf (bytes "source,va_re,va_im,vb_re,vb_im,vc_re,vc_im,tol,sweeps\nX2,81,0,-37,-66,-39,74,20,50\n\nfrom,to,phases,kind,p1,p2,p3,p4,p5,p6,p7,p8,p9,p10,p11,p12\nX2,5KWH,ABC,L,244,69,37,107,94,-72,267,236,84,27,161,-252\n5KWH,92,ABC,L,0,0,0,0,0,0,1,-1,0,0,1,1\n\nnode,phase,kind,vn,p,q\n92,C,P,79,12,14\nX2,CA,P,137,0,0\n5KWH,AB,Z,137,0,0\n5KWH,A,Z,79,0,0\n5KWH,B,I,79,0,0\n") (bytes "node,va_re,va_im,vb_re,vb_im,vc_re,vc_im\nX2,81,0,-37,-66,-39,74\n5KWH,81,0,-37,-66,-39,74\n92,81,0,-37,-66,-39,74\n\nfrom,to,ia_re,ia_im,ib_re,ib_im,ic_re,ic_im,loss_p,loss_q\nX2,5KWH,0,0,0,0,8118,20494,8118,-20494\n5KWH,92,0,0,0,0,8118,20494,0,0\n\nsweeps,source_p,source_q,drawn_p,drawn_q,lost_p,lost_q\n1,1199954,1399998,1199954,1399998,8118,-20494\n") ≡ good (record { differs = record { re = negsuc 7917; im = pos 12194 }; allowed = 1202386 })
+-- S-1, 00420-moved-tol
+a1-00420 : accountOf (bytes "source,va_re,va_im,vb_re,vb_im,vc_re,vc_im,tol,sweeps\nX2,81,0,-37,-66,-39,74,20,50\n\nfrom,to,phases,kind,p1,p2,p3,p4,p5,p6,p7,p8,p9,p10,p11,p12\nX2,5KWH,ABC,L,244,69,37,107,94,-72,267,236,84,27,161,-252\n5KWH,92,ABC,L,0,0,0,0,0,0,1,-1,0,0,1,1\n\nnode,phase,kind,vn,p,q\n92,C,P,79,12,14\nX2,CA,P,137,0,0\n5KWH,AB,Z,137,0,0\n5KWH,A,Z,79,0,0\n5KWH,B,I,79,0,0\n") (bytes "node,va_re,va_im,vb_re,vb_im,vc_re,vc_im\nX2,81,0,-37,-66,-39,74\n5KWH,81,0,-37,-66,-40,74\n92,81,20,-37,-66,-40,74\n\nfrom,to,ia_re,ia_im,ib_re,ib_im,ic_re,ic_im,loss_p,loss_q\nX2,5KWH,0,0,0,0,7858,20464,7858,-20464\n5KWH,92,0,0,0,0,7858,20464,0,0\n\nsweeps,source_p,source_q,drawn_p,drawn_q,lost_p,lost_q\n23,1207874,1379588,1200016,1400052,7858,-20464\n") ≡ good (record { differs = record { re = pos 90; im = negsuc 8350 }; allowed = 1190207 })
 unfolding opened
-a1-00418 = refl
+a1-00420 = refl
 
--- S-1, 00486-rand-own
-a1-00486 : accountOf (bytes "source,va_re,va_im,vb_re,vb_im,vc_re,vc_im,tol,sweeps\nS,2000000,0,0,0,0,0,1,100\n\nfrom,to,phases,kind,p1,p2,p3,p4,p5,p6,p7,p8,p9,p10,p11,p12\nS,N,ABC,L,-5000000,0,0,0,0,0,5000000,0,0,0,0,5000000\n\nnode,phase,kind,vn,p,q\nN,AB,Z,3464102,-6,-24\n") (bytes "node,va_re,va_im,vb_re,vb_im,vc_re,vc_im\nS,2000000,0,0,0,0,0\nN,2000000,0,0,0,0,0\n\nfrom,to,ia_re,ia_im,ib_re,ib_im,ic_re,ic_im,loss_p,loss_q\nS,N,0,0,0,0,0,0,0,0\n\nsweeps,source_p,source_q,drawn_p,drawn_q,lost_p,lost_q\n1,0,0,0,0,0,0\n") ≡ good (record { differs = record { re = pos 200000; im = pos 800000 }; allowed = 2000002 })
+-- S-3, 00002-source-at-own
+a3-00002 : accountOf (bytes "source,va_re,va_im,vb_re,vb_im,vc_re,vc_im,tol,sweeps\nS,700000,0,-350000,-606218,0,0,1,20\n\nfrom,to,phases,kind,p1,p2,p3,p4,p5,p6,p7,p8,p9,p10,p11,p12\nS,N1,AB,L,1000,1000,0,0,0,0,1000,1000,0,0,0,0\n\nnode,phase,kind,vn,p,q\nS,A,P,1000000,70000,9000\n") (bytes "node,va_re,va_im,vb_re,vb_im,vc_re,vc_im\nS,700000,0,-350000,-606218,0,0\nN1,700000,0,-350000,-606218,0,0\n\nfrom,to,ia_re,ia_im,ib_re,ib_im,ic_re,ic_im,loss_p,loss_q\nS,N1,0,0,0,0,0,0,0,0\n\nsweeps,source_p,source_q,drawn_p,drawn_q,lost_p,lost_q\n1,7000000000,900200000,7000000000,900200000,0,0\n") ≡ good (record { differs = record { re = pos 0; im = pos 200000 }; allowed = 722574 })
 unfolding opened
-a1-00486 = refl
+a3-00002 = refl
+
+-- S-3, 00038-node-at-complex-own
+a3-00038 : accountOf (bytes "source,va_re,va_im,vb_re,vb_im,vc_re,vc_im,tol,sweeps\nS,420000,560000,-350000,-606218,0,0,1,20\n\nfrom,to,phases,kind,p1,p2,p3,p4,p5,p6,p7,p8,p9,p10,p11,p12\nS,N1,AB,L,1000,1000,0,0,0,0,1000,1000,0,0,0,0\n\nnode,phase,kind,vn,p,q\nN1,A,P,1000000,70000,9000\n") (bytes "node,va_re,va_im,vb_re,vb_im,vc_re,vc_im\nS,420000,560000,-350000,-606218,0,0\nN1,420000,560000,-350000,-606218,0,0\n\nfrom,to,ia_re,ia_im,ib_re,ib_im,ic_re,ic_im,loss_p,loss_q\nS,N1,7029,7229,0,0,0,0,7229,7029\n\nsweeps,source_p,source_q,drawn_p,drawn_q,lost_p,lost_q\n1,7000420000,900060000,7000420000,900060000,7229,7029\n") ≡ good (record { differs = record { re = pos 409833; im = pos 49833 }; allowed = 1022776 })
+unfolding opened
+a3-00038 = refl
+
+-- S-3, 00076-kindI-under-im-own
+a3-00076 : accountOf (bytes "source,va_re,va_im,vb_re,vb_im,vc_re,vc_im,tol,sweeps\nS,0,-699999,-350000,-606218,0,0,1,20\n\nfrom,to,phases,kind,p1,p2,p3,p4,p5,p6,p7,p8,p9,p10,p11,p12\nS,N1,AB,L,1000,1000,0,0,0,0,1000,1000,0,0,0,0\n\nnode,phase,kind,vn,p,q\nN1,A,I,1000000,70000,9000\n") (bytes "node,va_re,va_im,vb_re,vb_im,vc_re,vc_im\nS,0,-699999,-350000,-606218,0,0\nN1,0,-699999,-350000,-606218,0,0\n\nfrom,to,ia_re,ia_im,ib_re,ib_im,ic_re,ic_im,loss_p,loss_q\nS,N1,-900,-7000,0,0,0,0,6100,7900\n\nsweeps,source_p,source_q,drawn_p,drawn_q,lost_p,lost_q\n1,4899993000,629999100,4899993000,629999100,6100,7900\n") ≡ good (record { differs = record { re = negsuc 4980; im = negsuc 4980 }; allowed = 723701 })
+unfolding opened
+a3-00076 = refl
+
+-- S-3, 00110-vn2000000-1400000-own
+a3-00110 : accountOf (bytes "source,va_re,va_im,vb_re,vb_im,vc_re,vc_im,tol,sweeps\nS,1400000,0,0,0,0,0,1,20\n\nfrom,to,phases,kind,p1,p2,p3,p4,p5,p6,p7,p8,p9,p10,p11,p12\n\nnode,phase,kind,vn,p,q\nS,A,P,2000000,3,-2\n") (bytes "node,va_re,va_im,vb_re,vb_im,vc_re,vc_im\nS,1400000,0,0,0,0,0\n\nfrom,to,ia_re,ia_im,ib_re,ib_im,ic_re,ic_im,loss_p,loss_q\n\nsweeps,source_p,source_q,drawn_p,drawn_q,lost_p,lost_q\n1,0,0,0,0,0,0\n") ≡ good (record { differs = record { re = negsuc 299999; im = pos 200000 }; allowed = 1400001 })
+unfolding opened
+a3-00110 = refl
+
+-- S-3, 00140-sweeps-950000-0-own
+a3-00140 : accountOf (bytes "source,va_re,va_im,vb_re,vb_im,vc_re,vc_im,tol,sweeps\nS,720000,0,-360000,-623538,-360000,623538,0,40\n\nfrom,to,phases,kind,p1,p2,p3,p4,p5,p6,p7,p8,p9,p10,p11,p12\nS,N1,A,L,3000000,2000000,0,0,0,0,0,0,0,0,0,0\n\nnode,phase,kind,vn,p,q\nN1,A,P,950000,100000,20000\n") (bytes "node,va_re,va_im,vb_re,vb_im,vc_re,vc_im\nS,720000,0,-360000,-623538,-360000,623538\nN1,715241,-1945,0,0,0,0\n\nfrom,to,ia_re,ia_im,ib_re,ib_im,ic_re,ic_im,loss_p,loss_q\nS,N1,13974,-2834,0,0,0,0,60990136,40666436\n\nsweeps,source_p,source_q,drawn_p,drawn_q,lost_p,lost_q\n4,10061280000,2040480000,10000289864,1999813564,60990136,40666436\n") ≡ good (record { differs = record { re = pos 288730; im = negsuc 180845 }; allowed = 733996 })
+unfolding opened
+a3-00140 = refl
+
+-- S-3, 00170-sweeps-980000-1-own
+a3-00170 : accountOf (bytes "source,va_re,va_im,vb_re,vb_im,vc_re,vc_im,tol,sweeps\nS,720000,0,-360000,-623538,-360000,623538,1,40\n\nfrom,to,phases,kind,p1,p2,p3,p4,p5,p6,p7,p8,p9,p10,p11,p12\nS,N1,A,L,3000000,2000000,0,0,0,0,0,0,0,0,0,0\n\nnode,phase,kind,vn,p,q\nN1,A,P,980000,100000,20000\n") (bytes "node,va_re,va_im,vb_re,vb_im,vc_re,vc_im\nS,720000,0,-360000,-623538,-360000,623538\nN1,715241,-1944,0,0,0,0\n\nfrom,to,ia_re,ia_im,ib_re,ib_im,ic_re,ic_im,loss_p,loss_q\nS,N1,13974,-2834,0,0,0,0,60990136,40666436\n\nsweeps,source_p,source_q,drawn_p,drawn_q,lost_p,lost_q\n3,10061280000,2040480000,10000287030,1999827538,60990136,40666436\n") ≡ good (record { differs = record { re = pos 288730; im = negsuc 180845 }; allowed = 767611 })
+unfolding opened
+a3-00170 = refl
+
+-- S-3, 00200-sweeps-1010000-1000-own
+a3-00200 : accountOf (bytes "source,va_re,va_im,vb_re,vb_im,vc_re,vc_im,tol,sweeps\nS,720000,0,-360000,-623538,-360000,623538,1000,40\n\nfrom,to,phases,kind,p1,p2,p3,p4,p5,p6,p7,p8,p9,p10,p11,p12\nS,N1,A,L,3000000,2000000,0,0,0,0,0,0,0,0,0,0\n\nnode,phase,kind,vn,p,q\nN1,A,P,1010000,100000,20000\n") (bytes "node,va_re,va_im,vb_re,vb_im,vc_re,vc_im\nS,720000,0,-360000,-623538,-360000,623538\nN1,715278,-1944,0,0,0,0\n\nfrom,to,ia_re,ia_im,ib_re,ib_im,ic_re,ic_im,loss_p,loss_q\nS,N1,13973,-2834,0,0,0,0,60988211,40650518\n\nsweeps,source_p,source_q,drawn_p,drawn_q,lost_p,lost_q\n2,10060560000,2040480000,10000088790,1999934340,60988211,40650518\n") ≡ good (record { differs = record { re = negsuc 422885; im = negsuc 175256 }; allowed = 34348031 })
+unfolding opened
+a3-00200 = refl
+
+-- S-3, 00234-moved-rand
+a3-00234 : accountOf (bytes "source,va_re,va_im,vb_re,vb_im,vc_re,vc_im,tol,sweeps\nM5,11911,1459,-6000,-10392,-5798,9915,5,50\n\nfrom,to,phases,kind,p1,p2,p3,p4,p5,p6,p7,p8,p9,p10,p11,p12\nM5,M1,ABC,L,31887,16192,0,0,0,0,32351,-43866,10631,6897,58975,45575\nM1,GBY,AB,R,-15,-3,0,0,0,0,0,0,0,0,0,0\n\nnode,phase,kind,vn,p,q\nM1,AB,P,20785,173,-41\n") (bytes "node,va_re,va_im,vb_re,vb_im,vc_re,vc_im\nM5,11911,1459,-6000,-10392,-5798,9915\nM1,11911,1451,-5997,-10394,-5793,9913\nGBY,10887,1328,-5882,-10200,0,0\n\nfrom,to,ia_re,ia_im,ib_re,ib_im,ic_re,ic_im,loss_p,loss_q\nM5,M1,567,604,-567,-604,0,0,4043,-1886\nM1,GBY,0,0,0,0,0,0,0,0\n\nsweeps,source_p,source_q,drawn_p,drawn_q,lost_p,lost_q\n29,17313541,-4098727,17308216,-4100317,4043,-1886\n") ≡ good (record { differs = record { re = pos 9132; im = pos 3172 }; allowed = 85290 })
+unfolding opened
+a3-00234 = refl
+
+-- S-3, 00281-moved-alltol
+a3-00281 : accountOf (bytes "source,va_re,va_im,vb_re,vb_im,vc_re,vc_im,tol,sweeps\n3,770162,25333,-347002,-612005,-360000,623538,100,5\n\nfrom,to,phases,kind,p1,p2,p3,p4,p5,p6,p7,p8,p9,p10,p11,p12\n3,UN92WITP,AC,L,1,1,0,0,0,0,0,0,0,0,1,1\n\nnode,phase,kind,vn,p,q\nUN92WITP,CA,Z,1247077,58488,-15386\n") (bytes "node,va_re,va_im,vb_re,vb_im,vc_re,vc_im\n3,770162,25333,-347002,-612005,-360000,623538\nUN92WITP,770062,25233,0,0,-360100,623638\n\nfrom,to,ia_re,ia_im,ib_re,ib_im,ic_re,ic_im,loss_p,loss_q\n3,UN92WITP,4842,-1132,0,0,-4842,1132,0,0\n\nsweeps,source_p,source_q,drawn_p,drawn_q,lost_p,lost_q\n1,6149412464,-1617165226,6149638864,-1618133626,0,0\n") ≡ good (record { differs = record { re = negsuc 829369; im = pos 732813 }; allowed = 4130117 })
+unfolding opened
+a3-00281 = refl
+
+-- S-3, 00335-rand-own
+a3-00335 : accountOf (bytes "source,va_re,va_im,vb_re,vb_im,vc_re,vc_im,tol,sweeps\n36,12000,0,-5817,-10496,-6000,10392,0,3\n\nfrom,to,phases,kind,p1,p2,p3,p4,p5,p6,p7,p8,p9,p10,p11,p12\n\nnode,phase,kind,vn,p,q\n36,AB,Z,20785,0,-1288\n36,BC,Z,20785,16,6\n") (bytes "node,va_re,va_im,vb_re,vb_im,vc_re,vc_im\n36,12000,0,-5817,-10496,-6000,10392\n\nfrom,to,ia_re,ia_im,ib_re,ib_im,ic_re,ic_im,loss_p,loss_q\n\nsweeps,source_p,source_q,drawn_p,drawn_q,lost_p,lost_q\n1,1629499,-126886750,1629499,-126886750,0,0\n") ≡ good (record { differs = record { re = pos 13478; im = negsuc 5967 }; allowed = 49386 })
+unfolding opened
+a3-00335 = refl
+
+-- S-3, 00391-moved-alltol
+a3-00391 : accountOf (bytes "source,va_re,va_im,vb_re,vb_im,vc_re,vc_im,tol,sweeps\nS,166295,153600,188343,-150192,99801,-616,0,20\n\nfrom,to,phases,kind,p1,p2,p3,p4,p5,p6,p7,p8,p9,p10,p11,p12\nS,N0,BC,L,0,0,0,0,0,0,4727,1576,1576,-1576,4727,-4727\n\nnode,phase,kind,vn,p,q\nN0,C,Z,3081,0,-3\n") (bytes "node,va_re,va_im,vb_re,vb_im,vc_re,vc_im\nS,166295,153600,188343,-150192,99801,-616\nN0,0,0,188342,-150192,99800,-617\n\nfrom,to,ia_re,ia_im,ib_re,ib_im,ic_re,ic_im,loss_p,loss_q\nS,N0,0,0,0,0,19,3154,3173,-3135\n\nsweeps,source_p,source_q,drawn_p,drawn_q,lost_p,lost_q\n20,-46645,-314784058,-49818,-314780923,3173,-3135\n") ≡ good (record { differs = record { re = negsuc 51346; im = pos 6739 }; allowed = 103592 })
+unfolding opened
+a3-00391 = refl
+
+-- S-3, 00447-rand-own
+a3-00447 : accountOf (bytes "source,va_re,va_im,vb_re,vb_im,vc_re,vc_im,tol,sweeps\nS,720000,0,-360000,-623520,-360000,623520,1,100\n\nfrom,to,phases,kind,p1,p2,p3,p4,p5,p6,p7,p8,p9,p10,p11,p12\nS,N0,ABC,L,5684381,40545940,1421095,10136485,0,0,5684381,40545940,0,0,5684381,40545940\n\nnode,phase,kind,vn,p,q\nN0,A,I,720000,343769,55350\nN0,BC,Z,1247077,0,-8398\nN0,AB,I,4000000,320790,135403\nN0,BC,Z,1247077,0,-32463\nN0,C,P,1028549,282040,204191\n") (bytes "node,va_re,va_im,vb_re,vb_im,vc_re,vc_im\nS,720000,0,-360000,-623520,-360000,623520\nN0,603344,-192439,-388554,-650801,-272516,606550\n\nfrom,to,ia_re,ia_im,ib_re,ib_im,ic_re,ic_im,loss_p,loss_q\nS,N0,51852,-21542,-5396,-596,1138,21736,2002292242,14282024572\n\nsweeps,source_p,source_q,drawn_p,drawn_q,lost_p,lost_q\n7,52790768640,27194719680,50788476398,12912695108,2002292242,14282024572\n") ≡ good (record { differs = record { re = pos 308977; im = pos 114931 }; allowed = 6206269 })
+unfolding opened
+a3-00447 = refl
+
+-- S-3, 00513-rand-own
+a3-00513 : accountOf (bytes "source,va_re,va_im,vb_re,vb_im,vc_re,vc_im,tol,sweeps\nS8,371761,-394795,-530267,-113521,148721,514938,1000,50\n\nfrom,to,phases,kind,p1,p2,p3,p4,p5,p6,p7,p8,p9,p10,p11,p12\nS8,AB,ABC,L,1,0,0,0,0,0,0,1,0,0,0,0\nAB,90UL,ABC,L,0,-1,0,0,0,0,1,1,0,0,1,1\n90UL,UF,ABC,L,607791,1432290,155419,485757,181820,150626,657004,843494,0,0,801731,-1715242\nUF,UY8E,ABC,L,91787795,43959760,0,0,0,0,97596425,-98935559,27665482,-10218775,41317579,51915574\n\nnode,phase,kind,vn,p,q\nUF,AB,P,939260,601,-142\n") (bytes "node,va_re,va_im,vb_re,vb_im,vc_re,vc_im\nS8,371761,-394795,-530267,-113521,148721,514938\nAB,371761,-394795,-530267,-113521,148721,514938\n90UL,371761,-394795,-530267,-113521,148721,514938\nUF,371761,-394795,-530267,-113521,148721,514938\nUY8E,371761,-394795,-530267,-113521,148721,514938\n\nfrom,to,ia_re,ia_im,ib_re,ib_im,ic_re,ic_im,loss_p,loss_q\nS8,AB,65,-5,-65,5,0,0,0,0\nAB,90UL,65,-5,-65,5,0,0,0,0\n90UL,UF,65,-5,-65,5,0,0,350,550\nUF,UY8E,0,0,0,0,0,0,0,0\n\nsweeps,source_p,source_q,drawn_p,drawn_q,lost_p,lost_q\n1,60038190,-13772670,60038190,-13772670,350,550\n") ≡ good (record { differs = record { re = negsuc 62214; im = pos 426776 }; allowed = 1463727 })
+unfolding opened
+a3-00513 = refl

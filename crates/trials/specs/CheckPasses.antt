@@ -20,45 +20,35 @@ v00207 : checkOf (bytes "source,va_re,va_im,vb_re,vb_im,vc_re,vc_im,tol,sweeps\n
 unfolding opened
 v00207 = refl
 
--- 00293-name-digits-own
-v00293 : checkOf (bytes "source,va_re,va_im,vb_re,vb_im,vc_re,vc_im,tol,sweeps\n0,720000,0,-360000,-623538,-360000,623538,1,20\n\nfrom,to,phases,kind,p1,p2,p3,p4,p5,p6,p7,p8,p9,p10,p11,p12\n0,007,A,L,0,0,0,0,0,0,0,0,0,0,0,0\n007,12345678,A,L,0,0,0,0,0,0,0,0,0,0,0,0\n\nnode,phase,kind,vn,p,q\n") (bytes "node,va_re,va_im,vb_re,vb_im,vc_re,vc_im\n0,720000,0,-360000,-623538,-360000,623538\n007,720000,0,0,0,0,0\n12345678,720000,0,0,0,0,0\n\nfrom,to,ia_re,ia_im,ib_re,ib_im,ic_re,ic_im,loss_p,loss_q\n0,007,0,0,0,0,0,0,0,0\n007,12345678,0,0,0,0,0,0,0,0\n\nsweeps,source_p,source_q,drawn_p,drawn_q,lost_p,lost_q\n1,0,0,0,0,0,0\n") ≡ Pass
+-- 00344-ex-num24-1
+v00344 : checkOf (bytes "source,va_re,va_im,vb_re,vb_im,vc_re,vc_im,tol,sweeps\nS,720000,0,-360000,-623538,-360000,623538,1,20\n\nfrom,to,phases,kind,p1,p2,p3,p4,p5,p6,p7,p8,p9,p10,p11,p12\nS,N1,A,L,1000000,0,0,0,0,0,0,0,0,0,0,0\n\nnode,phase,kind,vn,p,q\nN1,A,P,720000,72000,0\n") (bytes "node,va_re,va_im,vb_re,vb_im,vc_re,vc_im\nS,720000,0,-360000,-623538,-360000,623538\nN1,719000,0,0,0,0,0\n\nfrom,to,ia_re,ia_im,ib_re,ib_im,ic_re,ic_im,loss_p,loss_q\nS,N1,10014,0,0,0,0,0,10024014,0\n\nsweeps,source_p,source_q,drawn_p,drawn_q,lost_p,lost_q\n1,7210080000,0,7200066000,0,10024014,0\n") ≡ Pass
 unfolding opened
-v00293 = refl
+v00344 = refl
 
--- 00918-tiny-own
-v00918 : checkOf (bytes "source,va_re,va_im,vb_re,vb_im,vc_re,vc_im,tol,sweeps\nS,26,14,-20,-22,-39,8,0,50\n\nfrom,to,phases,kind,p1,p2,p3,p4,p5,p6,p7,p8,p9,p10,p11,p12\nS,N0,ABC,Y,4,8,-1677,2064,-594,1677,-5030,1691,0,0,0,0\n\nnode,phase,kind,vn,p,q\nS,C,I,64,3,3\nN0,A,P,1681,1,1\n") (bytes "node,va_re,va_im,vb_re,vb_im,vc_re,vc_im\nS,26,14,-20,-22,-39,8\nN0,52,27,-40,-44,-78,16\n\nfrom,to,ia_re,ia_im,ib_re,ib_im,ic_re,ic_im,loss_p,loss_q\nS,N0,2301,-728,0,0,0,0,-728,2301\n\nsweeps,source_p,source_q,drawn_p,drawn_q,lost_p,lost_q\n2,289774,292787,290502,290486,-728,2301\n") ≡ Pass
+-- 00936-hard-own
+v00936 : checkOf (bytes "source,va_re,va_im,vb_re,vb_im,vc_re,vc_im,tol,sweeps\nS,1800000,0,-900000,-1558800,-900000,1558800,30,10\n\nfrom,to,phases,kind,p1,p2,p3,p4,p5,p6,p7,p8,p9,p10,p11,p12\nN1,N2,ABC,L,12192840,36111999,3048210,9027999,0,0,12192840,36111999,0,0,12192840,36111999\nN0,N1,ABC,L,26479614,3177849,6619903,794462,0,0,26479614,3177849,0,0,26479614,3177849\nS,N0,ABC,L,23469980,813633,5867495,203408,0,0,23469980,813633,0,0,23469980,813633\n\nnode,phase,kind,vn,p,q\nN2,A,P,1800000,908716,-127767\nN2,B,P,1800000,917409,21191\nN2,C,Z,1800000,901433,171775\nN1,C,Z,1800000,0,-559077\n") (bytes "node,va_re,va_im,vb_re,vb_im,vc_re,vc_im\nS,1800000,0,-900000,-1558800,-900000,1558800\nN2,1423529,-157160,-942085,-1179902,-562656,1402910\nN1,1524924,27014,-803539,-1319199,-724399,1424465\nN0,1671784,18458,-849777,-1448660,-820624,1492197\n\nfrom,to,ia_re,ia_im,ib_re,ib_im,ic_re,ic_im,loss_p,loss_q\nN1,N2,64046,1905,-39009,-46607,-8216,42015,10167154771,30112439157\nN0,N1,64046,1905,-39009,-46607,-32796,29515,22382102682,2686105797\nS,N0,64046,1905,-39009,-46607,-32796,29515,19838157857,687745960\n\nsweeps,source_p,source_q,drawn_p,drawn_q,lost_p,lost_q\n9,298566273600,-9126975600,246179395079,-42612904502,52387415310,33486290914\n") ≡ Pass
 unfolding opened
-v00918 = refl
+v00936 = refl
 
--- 00977-moved--tol
-v00977 : checkOf (bytes "source,va_re,va_im,vb_re,vb_im,vc_re,vc_im,tol,sweeps\nS,2,-1,3,-3,-2,1,1,20\n\nfrom,to,phases,kind,p1,p2,p3,p4,p5,p6,p7,p8,p9,p10,p11,p12\nS,N0,ABC,D,5,5,354528,206965,-937500,-91056,937500,-937500,0,0,0,0\n\nnode,phase,kind,vn,p,q\nN0,A,I,31428,3,1\nS,C,I,42,1,1\nS,B,P,278,0,2\n") (bytes "node,va_re,va_im,vb_re,vb_im,vc_re,vc_im\nS,2,-1,3,-3,-2,1\nN0,3,-2,1,-2,-5,4\n\nfrom,to,ia_re,ia_im,ib_re,ib_im,ic_re,ic_im,loss_p,loss_q\nS,N0,7,-10,0,0,0,0,0,0\n\nsweeps,source_p,source_q,drawn_p,drawn_q,lost_p,lost_q\n4,5999,205976,5992,205966,0,0\n") ≡ Pass
+-- 01025-moved-alltol
+v01025 : checkOf (bytes "source,va_re,va_im,vb_re,vb_im,vc_re,vc_im,tol,sweeps\nQA,68853,-716700,-655107,298722,626097,355531,1,10\n\nfrom,to,phases,kind,p1,p2,p3,p4,p5,p6,p7,p8,p9,p10,p11,p12\nQA,AU,ABC,L,3337287,4958542,2096260,1583052,2314208,693096,4642435,1513548,0,0,2894856,-1515017\nQA,FS1Z,ABC,Y,240,240,49603454,87801827,74341285,56367650,95042767,63341179,0,0,0,0\n\nnode,phase,kind,vn,p,q\nFS1Z,C,I,720000,215,135\nAU,C,P,690892,1862,798\nQA,A,P,720000,233,71\n") (bytes "node,va_re,va_im,vb_re,vb_im,vc_re,vc_im\nQA,68853,-716700,-655107,298722,626097,355531\nAU,68789,-716728,-655106,298723,626012,355565\nFS1Z,68854,-716701,-655106,298721,625751,355327\n\nfrom,to,ia_re,ia_im,ib_re,ib_im,ic_re,ic_im,loss_p,loss_q\nQA,AU,0,0,0,0,280,31,23057,-11906\nQA,FS1Z,0,0,0,0,35,-2,11669,7795\n\nsweeps,source_p,source_q,drawn_p,drawn_q,lost_p,lost_q\n9,230700083,101124501,230665635,101128824,34726,-4111\n") ≡ Pass
 unfolding opened
-v00977 = refl
+v01025 = refl
 
--- 01031-hard-own
-v01031 : checkOf (bytes "source,va_re,va_im,vb_re,vb_im,vc_re,vc_im,tol,sweeps\nS,1000000,0,-500000,-866000,-500000,866000,30,100\n\nfrom,to,phases,kind,p1,p2,p3,p4,p5,p6,p7,p8,p9,p10,p11,p12\nS,N0,ABC,L,4058533,1236011,1014633,309002,0,0,4058533,1236011,0,0,4058533,1236011\nN0,N1,ABC,L,645090,4276664,161272,1069166,0,0,645090,4276664,0,0,645090,4276664\nN2,N3,ABC,D,1673,1000,2660527,2488978,2660527,2488978,2660527,2488978,0,0,0,0\nN1,N2,ABC,R,-1,0,0,0,0,0,0,0,0,0,0,0\nN4,N5,ABC,L,5925623,2233077,1481405,558269,0,0,5925623,2233077,0,0,5925623,2233077\nN3,N4,ABC,R,0,0,0,0,0,0,0,0,0,0,0,0\n\nnode,phase,kind,vn,p,q\nN5,A,P,1000000,436093,312892\nN5,B,P,1000000,528661,-92712\nN5,C,P,1000000,514876,-151594\n") (bytes "node,va_re,va_im,vb_re,vb_im,vc_re,vc_im\nS,1000000,0,-500000,-866000,-500000,866000\nN0,982652,5669,-502931,-842530,-483666,842690\nN1,969818,-7802,-525811,-834920,-455048,847481\nN3,828791,-503105,-886808,-474759,58831,993996\nN2,963794,-7754,-525811,-834920,-455048,847481\nN5,807866,-469999,-874428,-439093,77679,964353\nN4,828791,-503105,-886808,-474759,58831,993996\n\nfrom,to,ia_re,ia_im,ib_re,ib_im,ic_re,ic_im,loss_p,loss_q\nS,N0,40112,-11694,-19537,-52013,-20825,63781,3752809709,1142889237\nN0,N1,40112,-11694,-19537,-52013,-20825,63781,596502052,3954532646\nN2,N3,23496,-52400,-44031,-32713,-11345,54305,2496726874,2335789684\nN1,N2,40363,-11767,-19537,-52013,-20825,63781,0,0\nN4,N5,23496,-52400,-44031,-32713,-11345,54305,5762262487,2171493475\nN3,N4,23496,-52400,-44031,-32713,-11345,54305,0,0\n\nsweeps,source_p,source_q,drawn_p,drawn_q,lost_p,lost_q\n5,160570604000,16462592000,147963477123,6858679735,12608301122,9604705042\n") ≡ Pass
+-- 01089-edgy-own
+v01089 : checkOf (bytes "source,va_re,va_im,vb_re,vb_im,vc_re,vc_im,tol,sweeps\nS,-100000,0,-100000,0,-100000,0,50,10\n\nfrom,to,phases,kind,p1,p2,p3,p4,p5,p6,p7,p8,p9,p10,p11,p12\nS,N0,ABC,Y,3,2,0,0,0,0,0,0,0,0,0,0\n\nnode,phase,kind,vn,p,q\nN0,A,I,66667,266342,0\nN0,A,Z,66667,700561,3\nN0,A,I,66667,366429,0\n") (bytes "node,va_re,va_im,vb_re,vb_im,vc_re,vc_im\nS,-100000,0,-100000,0,-100000,0\nN0,-66667,0,-66667,0,-66667,0\n\nfrom,to,ia_re,ia_im,ib_re,ib_im,ic_re,ic_im,loss_p,loss_q\nS,N0,-1999988,4,0,0,0,0,0,0\n\nsweeps,source_p,source_q,drawn_p,drawn_q,lost_p,lost_q\n1,133332500000,300000,133333199996,266668,0,0\n") ≡ Pass
 unfolding opened
-v01031 = refl
+v01089 = refl
 
--- 01077-moved-tol
-v01077 : checkOf (bytes "source,va_re,va_im,vb_re,vb_im,vc_re,vc_im,tol,sweeps\nS,-197,186,-222,246,-92,2,0,10\n\nfrom,to,phases,kind,p1,p2,p3,p4,p5,p6,p7,p8,p9,p10,p11,p12\nS,N1,C,L,0,0,0,0,0,0,0,0,0,0,1163,3489\nS,N0,ABC,D,9,2,-5000000,-4999990,-15000000,5000000,5000000,4999990,0,0,0,0\n\nnode,phase,kind,vn,p,q\nN1,C,P,258510,3,-1\n") (bytes "node,va_re,va_im,vb_re,vb_im,vc_re,vc_im\nS,-197,186,-222,246,-92,2\nN1,0,0,0,0,-92,3\nN0,-23,41,-6,13,29,-54\n\nfrom,to,ia_re,ia_im,ib_re,ib_im,ic_re,ic_im,loss_p,loss_q\nS,N1,0,0,0,0,-3293,-980,980,3293\nS,N0,0,0,0,0,0,0,0,0\n\nsweeps,source_p,source_q,drawn_p,drawn_q,lost_p,lost_q\n9,300996,-96746,300016,-100039,980,3293\n") ≡ Pass
+-- 01124-hard-own
+v01124 : checkOf (bytes "source,va_re,va_im,vb_re,vb_im,vc_re,vc_im,tol,sweeps\nS,240000,0,-120000,-207840,-120000,207840,3,50\n\nfrom,to,phases,kind,p1,p2,p3,p4,p5,p6,p7,p8,p9,p10,p11,p12\nN1,N2,A,L,-487756,234851,0,0,0,0,0,0,0,0,0,0\nS,N0,A,R,0,0,0,0,0,0,0,0,0,0,0,0\nN0,N1,A,R,-1,0,0,0,0,0,0,0,0,0,0,0\n\nnode,phase,kind,vn,p,q\nN2,A,P,240000,524145,57817\n") (bytes "node,va_re,va_im,vb_re,vb_im,vc_re,vc_im\nS,240000,0,-120000,-207840,-120000,207840\nN2,248105,-6343,0,0,0,0\nN0,240000,0,0,0,0,0\nN1,238509,0,0,0,0,0\n\nfrom,to,ia_re,ia_im,ib_re,ib_im,ic_re,ic_im,loss_p,loss_q\nN1,N2,210526,-28686,0,0,0,0,-2201952268,1060124248\nS,N0,209218,-28508,0,0,0,0,0,0\nN0,N1,210526,-28686,0,0,0,0,0,0\n\nsweeps,source_p,source_q,drawn_p,drawn_q,lost_p,lost_q\n4,50212320000,6841920000,52414508528,5781773612,-2201952268,1060124248\n") ≡ Pass
 unfolding opened
-v01077 = refl
+v01124 = refl
 
--- 01112-tiny-own
-v01112 : checkOf (bytes "source,va_re,va_im,vb_re,vb_im,vc_re,vc_im,tol,sweeps\nS,-12,38,-36,-34,39,-16,2,50\n\nfrom,to,phases,kind,p1,p2,p3,p4,p5,p6,p7,p8,p9,p10,p11,p12\nS,N0,A,R,13,0,0,0,0,0,0,0,0,0,0,0\n\nnode,phase,kind,vn,p,q\n") (bytes "node,va_re,va_im,vb_re,vb_im,vc_re,vc_im\nS,-12,38,-36,-34,39,-16\nN0,-13,41,0,0,0,0\n\nfrom,to,ia_re,ia_im,ib_re,ib_im,ic_re,ic_im,loss_p,loss_q\nS,N0,0,0,0,0,0,0,0,0\n\nsweeps,source_p,source_q,drawn_p,drawn_q,lost_p,lost_q\n1,0,0,0,0,0,0\n") ≡ Pass
+-- 01164-moved-rand
+v01164 : checkOf (bytes "source,va_re,va_im,vb_re,vb_im,vc_re,vc_im,tol,sweeps\nQH,12000,0,-6197,-10733,-6821,10272,20,50\n\nfrom,to,phases,kind,p1,p2,p3,p4,p5,p6,p7,p8,p9,p10,p11,p12\nQH,N8,AC,L,221541,253621,0,0,114152,-30512,0,0,0,0,101903,276517\nEDC,1I1U5L54,AC,R,-8,0,-14,0,0,0,0,0,0,0,0,0\n0QYN20R5,MNEP,C,R,0,0,7,0,0,0,0,0,0,0,0,0\nKXHKCHRT,EDC,AC,L,7663381,11749361,0,0,11424261,10600474,0,0,0,0,23116585,29618975\n1I1U5L54,YHAY,AC,L,0,0,0,0,0,0,0,0,0,0,1,-1\nYHAY,0QYN20R5,AC,L,111542,204467,0,0,79844,87965,0,0,0,0,112301,-167978\nMNEP,RH3,C,L,0,0,0,0,0,0,0,0,0,0,14409905,20154820\nN8,KXHKCHRT,AC,L,1,-1,0,0,0,0,0,0,0,0,1,-1\n\nnode,phase,kind,vn,p,q\nKXHKCHRT,A,Z,10468,0,0\n") (bytes "node,va_re,va_im,vb_re,vb_im,vc_re,vc_im\nQH,12000,0,-6197,-10733,-6821,10272\nN8,11993,20,0,0,-6822,10284\n1I1U5L54,11440,5,0,0,-6279,9455\nMNEP,0,0,0,0,-6544,9866\nEDC,12011,-17,0,0,-6821,10261\nYHAY,11424,-10,0,0,-6267,9465\n0QYN20R5,11421,-17,0,0,-6255,9459\nRH3,0,0,0,0,-6575,9859\nKXHKCHRT,11984,13,0,0,-6815,10263\n\nfrom,to,ia_re,ia_im,ib_re,ib_im,ic_re,ic_im,loss_p,loss_q\nQH,N8,0,0,0,0,0,0,0,0\nEDC,1I1U5L54,0,0,0,0,0,0,0,0\n0QYN20R5,MNEP,0,0,0,0,0,0,0,0\nKXHKCHRT,EDC,0,0,0,0,0,0,0,0\n1I1U5L54,YHAY,0,0,0,0,0,0,0,0\nYHAY,0QYN20R5,0,0,0,0,0,0,0,0\nMNEP,RH3,0,0,0,0,0,0,0,0\nN8,KXHKCHRT,0,0,0,0,0,0,0,0\n\nsweeps,source_p,source_q,drawn_p,drawn_q,lost_p,lost_q\n9,0,0,0,0,0,0\n") ≡ Pass
 unfolding opened
-v01112 = refl
-
--- 01150-wild-own
-v01150 : checkOf (bytes "source,va_re,va_im,vb_re,vb_im,vc_re,vc_im,tol,sweeps\nZI,0,2000000,-1850218,913,0,107,0,1\n\nfrom,to,phases,kind,p1,p2,p3,p4,p5,p6,p7,p8,p9,p10,p11,p12\nH0NE,L8,ABC,L,100000000,1,84552911,-100000000,-100000000,-84,0,100000000,81451999,100000000,-74681621,-1\nZI,H0NE,ABC,L,1,1,0,0,0,0,0,1,0,0,1,0\n\nnode,phase,kind,vn,p,q\n") (bytes "node,va_re,va_im,vb_re,vb_im,vc_re,vc_im\nZI,0,2000000,-1850218,913,0,107\nL8,0,2000000,-1850218,913,0,107\nH0NE,0,2000000,-1850218,913,0,107\n\nfrom,to,ia_re,ia_im,ib_re,ib_im,ic_re,ic_im,loss_p,loss_q\nH0NE,L8,0,0,0,0,0,0,0,0\nZI,H0NE,0,0,0,0,0,0,0,0\n\nsweeps,source_p,source_q,drawn_p,drawn_q,lost_p,lost_q\n1,0,0,0,0,0,0\n") ≡ Pass
-unfolding opened
-v01150 = refl
-
--- 01197-moved-rand
-v01197 : checkOf (bytes "source,va_re,va_im,vb_re,vb_im,vc_re,vc_im,tol,sweeps\nFC15,720000,771,-437679,-603937,-354990,614861,1,10\n\nfrom,to,phases,kind,p1,p2,p3,p4,p5,p6,p7,p8,p9,p10,p11,p12\nFC15,LXN,ABC,L,3237561,1699840,0,0,611455,1652882,4318510,2279904,1515406,1889852,3252844,2044070\n\nnode,phase,kind,vn,p,q\nFC15,C,P,843458,1897,1746\nLXN,C,Z,720000,0,-27265\nFC15,C,Z,720000,100445,24552\nFC15,B,P,856902,10,14\nLXN,B,I,641406,237,25\nLXN,B,P,720000,19941,-1524\nFC15,B,Z,720000,490,-141\nLXN,C,Z,603393,43661,-1002\nLXN,B,I,720000,2132,433\nLXN,B,Z,720000,0,-7834\nFC15,C,I,714344,61,-16\nLXN,B,Z,720000,0,-1338\nFC15,A,P,720000,39470,-2178\nLXN,B,I,766620,5,4\nLXN,B,I,720000,9,1\nFC15,C,Z,859270,768,187\nLXN,A,Z,613035,687,824\nLXN,B,P,720000,48726,35296\nFC15,A,Z,720000,0,-198\nFC15,C,Z,720000,-394,38\nLXN,A,Z,720000,746,383\nFC15,C,Z,720000,24,11\nLXN,C,P,720000,730,402\nFC15,A,Z,720000,12511,-2024\nFC15,A,Z,720000,0,-5800\n") (bytes "node,va_re,va_im,vb_re,vb_im,vc_re,vc_im\nFC15,720000,771,-437679,-603937,-354990,614861\nLXN,721274,1719,-433205,-598911,-351262,617044\n\nfrom,to,ia_re,ia_im,ib_re,ib_im,ic_re,ic_im,loss_p,loss_q\nFC15,LXN,236,-211,-8336,-5851,-7629,5573,82886685,52648246\n\nsweeps,source_p,source_q,drawn_p,drawn_q,lost_p,lost_q\n7,28717373412,1457012043,28634496605,1404354972,82886685,52648246\n") ≡ Pass
-unfolding opened
-v01197 = refl
+v01164 = refl
 
 -- S-1, 00026-I-BC-own
 v1-00026 : checkOf (bytes "source,va_re,va_im,vb_re,vb_im,vc_re,vc_im,tol,sweeps\nS,720000,0,-360000,-623538,-360000,623538,1,20\n\nfrom,to,phases,kind,p1,p2,p3,p4,p5,p6,p7,p8,p9,p10,p11,p12\nS,N1,ABC,L,300000,600000,100000,200000,90000,180000,300000,600000,80000,170000,300000,600000\n\nnode,phase,kind,vn,p,q\nN1,BC,I,1247077,90000,30000\n") (bytes "node,va_re,va_im,vb_re,vb_im,vc_re,vc_im\nS,720000,0,-360000,-623538,-360000,623538\nN1,719988,12,-360257,-623276,-359743,623276\n\nfrom,to,ia_re,ia_im,ib_re,ib_im,ic_re,ic_im,loss_p,loss_q\nS,N1,0,0,-2409,-7216,2409,7216,2542958,4971340\n\nsweeps,source_p,source_q,drawn_p,drawn_q,lost_p,lost_q\n2,8998900416,3004206084,8996357458,2999234744,2542958,4971340\n") ≡ Pass
@@ -85,22 +75,82 @@ v1-00231 : checkOf (bytes "source,va_re,va_im,vb_re,vb_im,vc_re,vc_im,tol,sweeps
 unfolding opened
 v1-00231 = refl
 
--- S-1, 00283-moved34-rand
-v1-00283 : checkOf (bytes "source,va_re,va_im,vb_re,vb_im,vc_re,vc_im,tol,sweeps\nS,1000000,0,-500000,-866000,-500000,866000,0,10\n\nfrom,to,phases,kind,p1,p2,p3,p4,p5,p6,p7,p8,p9,p10,p11,p12\nN0,N1,ABC,D,1865,1000,9535282,7705992,9535282,7705992,9535282,7705992,0,0,0,0\nS,N0,ABC,L,6694770,2628626,1673692,657156,0,0,6694770,2628626,0,0,6694770,2628626\nN1,N2,ABC,L,4529957,6459256,1132489,1614814,0,0,4529957,6459256,0,0,4529957,6459256\n\nnode,phase,kind,vn,p,q\nN2,CA,I,1732051,775514,484386\nN2,B,P,1000000,812870,418682\nN2,C,P,1000000,850438,-335868\n") (bytes "node,va_re,va_im,vb_re,vb_im,vc_re,vc_im\nS,1000000,0,-500000,-866000,-500000,866000\nN1,720478,-344017,-595643,-314640,145236,595345\nN0,942913,26489,-477694,-766747,-472175,765406\nN2,708304,-294047,-520803,-210321,273394,480698\n\nfrom,to,ia_re,ia_im,ib_re,ib_im,ic_re,ic_im,loss_p,loss_q\nN0,N1,-2469,-52733,-162108,14926,25703,216436,73225265504,59177342904\nS,N0,85597,-36278,-100703,-108048,15106,144327,32915918931,12924051163\nN1,N2,-2469,-52733,-162108,14926,25703,216436,34699800748,49478130493\n\nsweeps,source_p,source_q,drawn_p,drawn_q,lost_p,lost_q\n9,346952250000,154708094000,206111657663,33128296031,140840985183,121579524560\n") ≡ Pass
+-- S-1, 00286-rand-own
+v1-00286 : checkOf (bytes "source,va_re,va_im,vb_re,vb_im,vc_re,vc_im,tol,sweeps\n10,23634,-1011,-11775,-20396,-11135,20872,1000,20\n\nfrom,to,phases,kind,p1,p2,p3,p4,p5,p6,p7,p8,p9,p10,p11,p12\n10,KLWD,AC,L,62442,21135,0,0,0,0,0,0,0,0,65733,40326\nKLWD,O,AC,L,54062,-25302,0,0,25272,28233,0,0,0,0,67613,-31093\n10,MUC,ABC,L,86323,37720,26146,-49363,0,0,102081,140433,0,0,144565,66331\nO,FL6Q,AC,L,1,1,0,0,0,0,0,0,0,0,1,0\nMUC,5P,ABC,L,1960,3015,1250,1066,1192,959,901,1387,1287,-376,3349,2971\n\nnode,phase,kind,vn,p,q\nO,CA,Z,36645,592,304\n5P,CA,P,40973,587,-110\n10,A,Z,24482,2386,302\nFL6Q,A,I,24442,125,41\nMUC,AB,P,40973,500,225\n5P,BC,Z,40973,0,-250\n10,CA,Z,2224976,-532,41\nMUC,B,P,23656,27,23\n5P,C,Z,23656,468,439\nMUC,AB,Z,40973,0,0\n5P,A,I,25694,4,5\nO,CA,I,40973,31,22\nO,A,P,25346,392,43\n10,B,P,23656,81,-20\nFL6Q,CA,P,40973,2726,-246\nMUC,C,I,19653,141,-33\nFL6Q,CA,I,39009,151,-731\nKLWD,C,Z,26439,-2,-2\nKLWD,A,P,22614,43,-11\n10,AB,P,40973,935,811\nMUC,AB,P,40973,3,-1\n5P,B,P,23656,8,5\n10,CA,Z,40617,0,-28\nO,C,P,23656,164,37\nFL6Q,CA,P,40973,47,-9\n") (bytes "node,va_re,va_im,vb_re,vb_im,vc_re,vc_im\n10,23634,-1011,-11775,-20396,-11135,20872\nKLWD,23634,-1011,0,0,-11135,20872\nO,23634,-1011,0,0,-11135,20872\nMUC,23634,-1011,-11775,-20396,-11135,20872\nFL6Q,23634,-1011,0,0,-11135,20872\n5P,23634,-1011,-11775,-20396,-11135,20872\n\nfrom,to,ia_re,ia_im,ib_re,ib_im,ic_re,ic_im,loss_p,loss_q\n10,KLWD,10777,-3930,0,0,-8632,4204,1436252,648646\nKLWD,O,10593,-3969,0,0,-8629,4213,770758,-1218884\n10,MUC,2726,-442,-921,-191,-1747,3717,305955,178513\nO,FL6Q,7873,-1879,0,0,-7369,1690,0,0\nMUC,5P,1367,-554,580,-29,-1261,3163,3841,3849\n\nsweeps,source_p,source_q,drawn_p,drawn_q,lost_p,lost_q\n1,943510603,82198464,943510603,82198464,2516806,-387876\n") ≡ Pass
 unfolding opened
-v1-00283 = refl
+v1-00286 = refl
 
--- S-1, 00327-moved-tol
-v1-00327 : checkOf (bytes "source,va_re,va_im,vb_re,vb_im,vc_re,vc_im,tol,sweeps\nS,1800000,0,-900000,-1558800,-900000,1558800,0,100\n\nfrom,to,phases,kind,p1,p2,p3,p4,p5,p6,p7,p8,p9,p10,p11,p12\nS,N0,A,L,100000000,100000000,0,0,0,0,0,0,0,0,0,0\nN0,N1,A,R,-1,0,0,0,0,0,0,0,0,0,0,0\n\nnode,phase,kind,vn,p,q\nN1,A,P,1800000,85343,34386\nN1,A,Z,1800000,0,-12676\n") (bytes "node,va_re,va_im,vb_re,vb_im,vc_re,vc_im\nS,1800000,0,-900000,-1558800,-900000,1558800\nN0,1737090,-34790,0,0,0,0\nN1,1726301,-34574,0,0,0,0\n\nfrom,to,ia_re,ia_im,ib_re,ib_im,ic_re,ic_im,loss_p,loss_q\nS,N0,4885,-1406,0,0,0,0,258400610,258400610\nN0,N1,4916,-1415,0,0,0,0,0,0\n\nsweeps,source_p,source_q,drawn_p,drawn_q,lost_p,lost_q\n15,8793000000,2530800000,8535417926,2272750131,258400610,258400610\n") ≡ Pass
+-- S-1, 00341-moved34-rand
+v1-00341 : checkOf (bytes "source,va_re,va_im,vb_re,vb_im,vc_re,vc_im,tol,sweeps\nS,1000000,0,-500000,-866000,-500000,866000,0,10\n\nfrom,to,phases,kind,p1,p2,p3,p4,p5,p6,p7,p8,p9,p10,p11,p12\nS,N0,A,L,49555427,37772899,0,0,0,0,0,0,0,0,0,0\n\nnode,phase,kind,vn,p,q\nN0,A,P,1000000,361053,5704\n") (bytes "node,va_re,va_im,vb_re,vb_im,vc_re,vc_im\nS,1000000,0,-500000,-866000,-500000,866000\nN0,726030,-133554,0,0,0,0\n\nfrom,to,ia_re,ia_im,ib_re,ib_im,ic_re,ic_im,loss_p,loss_q\nS,N0,47962,-9608,0,0,0,0,11856962308,9037820708\n\nsweeps,source_p,source_q,drawn_p,drawn_q,lost_p,lost_q\n9,47962000000,9608000000,36105037692,570179292,11856962308,9037820708\n") ≡ Pass
 unfolding opened
-v1-00327 = refl
+v1-00341 = refl
 
--- S-1, 00384-moved-alltol
-v1-00384 : checkOf (bytes "source,va_re,va_im,vb_re,vb_im,vc_re,vc_im,tol,sweeps\nS,-85516,117159,12194,-91225,-196778,-25267,2,50\n\nfrom,to,phases,kind,p1,p2,p3,p4,p5,p6,p7,p8,p9,p10,p11,p12\nS,N0,B,L,0,0,0,0,0,0,-1544,1114,0,0,0,0\n\nnode,phase,kind,vn,p,q\nN0,B,I,52,-1,-2\n") (bytes "node,va_re,va_im,vb_re,vb_im,vc_re,vc_im\nS,-85516,117159,12194,-91225,-196778,-25267\nN0,0,0,12197,-91223,0,0\n\nfrom,to,ia_re,ia_im,ib_re,ib_im,ic_re,ic_im,loss_p,loss_q\nS,N0,0,0,3557,2416,0,0,-3557,2416\n\nsweeps,source_p,source_q,drawn_p,drawn_q,lost_p,lost_q\n5,-177025542,-353948029,-177010039,-353948163,-3557,2416\n") ≡ Pass
+-- S-1, 00391-rand-own
+v1-00391 : checkOf (bytes "source,va_re,va_im,vb_re,vb_im,vc_re,vc_im,tol,sweeps\nXJT,16499,0,-8249,-14289,-8627,14943,1,5\n\nfrom,to,phases,kind,p1,p2,p3,p4,p5,p6,p7,p8,p9,p10,p11,p12\nXJT,9RK,ABC,L,599043,-171785,131866,242501,132837,220633,242054,456761,221829,113938,366350,-415078\n9RK,A,ABC,D,572,240,981247,2538469,1888737,2654779,3041786,1285060,0,0,0,0\nA,5A,ABC,L,0,1,0,0,0,0,0,1,0,0,1,1\n\nnode,phase,kind,vn,p,q\n9RK,AB,P,33669,3,-1\nXJT,C,I,14544,79,2387\n5A,A,Z,11990,0,0\n5A,AB,Z,21121,0,-1\n9RK,B,P,19455,0,0\n9RK,AB,Z,28577,0,-2\nA,CA,I,20767,77,85\n9RK,B,P,16499,811,679\n") (bytes "node,va_re,va_im,vb_re,vb_im,vc_re,vc_im\nXJT,16499,0,-8249,-14289,-8627,14943\n9RK,16538,185,-8211,-13953,-8543,15062\nA,10407,-6148,-10385,-5931,-123,11992\n5A,10407,-6148,-10385,-5931,-123,11992\n\nfrom,to,ia_re,ia_im,ib_re,ib_im,ic_re,ic_im,loss_p,loss_q\nXJT,9RK,-66,-203,-6229,-2427,141,439,1028218,2025108\n9RK,A,-168,-521,0,-5,168,526,122535,115225\nA,5A,0,5,0,-5,0,0,0,0\n\nsweeps,source_p,source_q,drawn_p,drawn_q,lost_p,lost_q\n3,99699837,361421156,98546995,359282816,1150753,2140333\n") ≡ Pass
 unfolding opened
-v1-00384 = refl
+v1-00391 = refl
 
--- S-1, 00447-edit
-v1-00447 : checkOf (bytes "source,va_re,va_im,vb_re,vb_im,vc_re,vc_im,tol,sweeps\nM,705073,-41314,-415974,-587678,-369350,639733,100,100\n\nfrom,to,phases,kind,p1,p2,p3,p4,p5,p6,p7,p8,p9,p10,p11,p12\nM,HDZM,ABC,L,26280173,27515824,12728771,-16276977,0,0,24688961,10603683,19799693,-6304847,46925095,19196297\nHDZM,DH,ABC,L,1,1,0,0,0,0,0,1,0,0,1,1\nDH,G,A,L,120711,334230,0,0,0,0,0,0,0,0,0,0\nG,H,A,L,48093809,-46449781,0,0,0,0,0,0,0,0,0,0\nH,WPQ,A,L,225848,-494993,0,0,0,0,0,0,0,0,0,0\nWPQ,9S8,A,R,3,0,0,0,0,0,0,0,0,0,0,0\n9S8,OB,A,L,49920982,32983136,0,0,0,0,0,0,0,0,0,0\nOB,Q5,A,L,13254578,-36609744,0,0,0,0,0,0,0,0,0,0\nQ5,E,A,L,211235,162916,0,0,0,0,0,0,0,0,0,0\nE,7,A,L,1,1,0,0,0,0,0,0,0,0,0,0\n7,F6,A,L,36151427,-79764015,0,0,0,0,0,0,0,0,0,0\nOB,V5RQ,A,L,26161319,29033236,0,0,0,0,0,0,0,0,0,0\n\nnode,phase,kind,vn,p,q\nG,A,P,720000,148,105\nDH,BC,P,4000000,473,-69\n7,A,Z,733758,0,-8287\n") (bytes "node,va_re,va_im,vb_re,vb_im,vc_re,vc_im\nM,705073,-41314,-415974,-587678,-369350,639733\nHDZM,707883,-44470,-417983,-588893,-369240,639637\nDH,707883,-44470,-417983,-588893,-369240,639637\nG,707919,-44487,0,0,0,0\nH,702270,-49460,0,0,0,0\nWPQ,702212,-49481,0,0,0,0\n9S8,715630,-50426,0,0,0,0\nOB,718817,-56216,0,0,0,0\nQ5,714668,-57350,0,0,0,0\nE,714684,-57365,0,0,0,0\n7,714684,-57375,0,0,0,0\nF6,714684,-57375,0,0,0,0\nV5RQ,718817,-56216,0,0,0,0\n\nfrom,to,ia_re,ia_im,ib_re,ib_im,ic_re,ic_im,loss_p,loss_q\nM,HDZM,110,1105,4,-39,-4,39,3136477,3538589\nHDZM,DH,110,1105,4,-39,-4,39,0,0\nDH,G,110,1105,0,0,0,0,14825,41650\nG,H,90,1121,0,0,0,0,6082333,-5874870\nH,WPQ,90,1121,0,0,0,0,28761,-63128\nWPQ,9S8,88,1100,0,0,0,0,0,0\n9S8,OB,88,1100,0,0,0,0,6079568,4016716\nOB,Q5,88,1100,0,0,0,0,1614272,-4458432\nQ5,E,88,1100,0,0,0,0,26092,19800\nE,7,88,1100,0,0,0,0,0,0\n7,F6,0,0,0,0,0,0,0,0\nOB,V5RQ,0,0,0,0,0,0,0,0\n\nsweeps,source_p,source_q,drawn_p,drawn_q,lost_p,lost_q\n3,79588593,-790378185,62367562,-787579533,16982328,-2779675\n") ≡ Pass
+-- S-1, 00486-rand-own
+v1-00486 : checkOf (bytes "source,va_re,va_im,vb_re,vb_im,vc_re,vc_im,tol,sweeps\nS,2000000,0,0,0,0,0,1,100\n\nfrom,to,phases,kind,p1,p2,p3,p4,p5,p6,p7,p8,p9,p10,p11,p12\nS,N,ABC,L,-5000000,0,0,0,0,0,5000000,0,0,0,0,5000000\n\nnode,phase,kind,vn,p,q\nN,AB,Z,3464102,-6,-24\n") (bytes "node,va_re,va_im,vb_re,vb_im,vc_re,vc_im\nS,2000000,0,0,0,0,0\nN,2000000,0,0,0,0,0\n\nfrom,to,ia_re,ia_im,ib_re,ib_im,ic_re,ic_im,loss_p,loss_q\nS,N,0,0,0,0,0,0,0,0\n\nsweeps,source_p,source_q,drawn_p,drawn_q,lost_p,lost_q\n1,0,0,0,0,0,0\n") ≡ Pass
 unfolding opened
-v1-00447 = refl
+v1-00486 = refl
+
+-- S-3, 00021-kindI-under-own
+v3-00021 : checkOf (bytes "source,va_re,va_im,vb_re,vb_im,vc_re,vc_im,tol,sweeps\nS,699999,0,-350000,-606218,0,0,1,20\n\nfrom,to,phases,kind,p1,p2,p3,p4,p5,p6,p7,p8,p9,p10,p11,p12\nS,N1,AB,L,1000,1000,0,0,0,0,1000,1000,0,0,0,0\n\nnode,phase,kind,vn,p,q\nN1,A,I,1000000,70000,9000\n") (bytes "node,va_re,va_im,vb_re,vb_im,vc_re,vc_im\nS,699999,0,-350000,-606218,0,0\nN1,699999,0,-350000,-606218,0,0\n\nfrom,to,ia_re,ia_im,ib_re,ib_im,ic_re,ic_im,loss_p,loss_q\nS,N1,7000,-900,0,0,0,0,6100,7900\n\nsweeps,source_p,source_q,drawn_p,drawn_q,lost_p,lost_q\n1,4899993000,629999100,4899993000,629999100,6100,7900\n") ≡ Pass
+unfolding opened
+v3-00021 = refl
+
+-- S-3, 00057-source-at-neg-own
+v3-00057 : checkOf (bytes "source,va_re,va_im,vb_re,vb_im,vc_re,vc_im,tol,sweeps\nS,-560000,420000,-350000,-606218,0,0,1,20\n\nfrom,to,phases,kind,p1,p2,p3,p4,p5,p6,p7,p8,p9,p10,p11,p12\nS,N1,AB,L,1000,1000,0,0,0,0,1000,1000,0,0,0,0\n\nnode,phase,kind,vn,p,q\nS,A,P,1000000,70000,9000\n") (bytes "node,va_re,va_im,vb_re,vb_im,vc_re,vc_im\nS,-560000,420000,-350000,-606218,0,0\nN1,-560000,420000,-350000,-606218,0,0\n\nfrom,to,ia_re,ia_im,ib_re,ib_im,ic_re,ic_im,loss_p,loss_q\nS,N1,0,0,0,0,0,0,0,0\n\nsweeps,source_p,source_q,drawn_p,drawn_q,lost_p,lost_q\n1,7000420000,900060000,7000420000,900060000,0,0\n") ≡ Pass
+unfolding opened
+v3-00057 = refl
+
+-- S-3, 00095-vn1-1-own
+v3-00095 : checkOf (bytes "source,va_re,va_im,vb_re,vb_im,vc_re,vc_im,tol,sweeps\nS,1,0,0,0,0,0,1,20\n\nfrom,to,phases,kind,p1,p2,p3,p4,p5,p6,p7,p8,p9,p10,p11,p12\n\nnode,phase,kind,vn,p,q\nS,A,P,1,3,-2\n") (bytes "node,va_re,va_im,vb_re,vb_im,vc_re,vc_im\nS,1,0,0,0,0,0\n\nfrom,to,ia_re,ia_im,ib_re,ib_im,ic_re,ic_im,loss_p,loss_q\n\nsweeps,source_p,source_q,drawn_p,drawn_q,lost_p,lost_q\n1,300000,-200000,300000,-200000,0,0\n") ≡ Pass
+unfolding opened
+v3-00095 = refl
+
+-- S-3, 00125-sweeps-900000-1-own
+v3-00125 : checkOf (bytes "source,va_re,va_im,vb_re,vb_im,vc_re,vc_im,tol,sweeps\nS,720000,0,-360000,-623538,-360000,623538,1,40\n\nfrom,to,phases,kind,p1,p2,p3,p4,p5,p6,p7,p8,p9,p10,p11,p12\nS,N1,A,L,3000000,2000000,0,0,0,0,0,0,0,0,0,0\n\nnode,phase,kind,vn,p,q\nN1,A,P,900000,100000,20000\n") (bytes "node,va_re,va_im,vb_re,vb_im,vc_re,vc_im\nS,720000,0,-360000,-623538,-360000,623538\nN1,715241,-1944,0,0,0,0\n\nfrom,to,ia_re,ia_im,ib_re,ib_im,ic_re,ic_im,loss_p,loss_q\nS,N1,13974,-2834,0,0,0,0,60990136,40666436\n\nsweeps,source_p,source_q,drawn_p,drawn_q,lost_p,lost_q\n3,10061280000,2040480000,10000287030,1999827538,60990136,40666436\n") ≡ Pass
+unfolding opened
+v3-00125 = refl
+
+-- S-3, 00155-sweeps-960000-1000-own
+v3-00155 : checkOf (bytes "source,va_re,va_im,vb_re,vb_im,vc_re,vc_im,tol,sweeps\nS,720000,0,-360000,-623538,-360000,623538,1000,40\n\nfrom,to,phases,kind,p1,p2,p3,p4,p5,p6,p7,p8,p9,p10,p11,p12\nS,N1,A,L,3000000,2000000,0,0,0,0,0,0,0,0,0,0\n\nnode,phase,kind,vn,p,q\nN1,A,P,960000,100000,20000\n") (bytes "node,va_re,va_im,vb_re,vb_im,vc_re,vc_im\nS,720000,0,-360000,-623538,-360000,623538\nN1,715278,-1944,0,0,0,0\n\nfrom,to,ia_re,ia_im,ib_re,ib_im,ic_re,ic_im,loss_p,loss_q\nS,N1,13973,-2834,0,0,0,0,60988211,40650518\n\nsweeps,source_p,source_q,drawn_p,drawn_q,lost_p,lost_q\n2,10060560000,2040480000,10000088790,1999934340,60988211,40650518\n") ≡ Pass
+unfolding opened
+v3-00155 = refl
+
+-- S-3, 00185-sweeps-1000000-0-own
+v3-00185 : checkOf (bytes "source,va_re,va_im,vb_re,vb_im,vc_re,vc_im,tol,sweeps\nS,720000,0,-360000,-623538,-360000,623538,0,40\n\nfrom,to,phases,kind,p1,p2,p3,p4,p5,p6,p7,p8,p9,p10,p11,p12\nS,N1,A,L,3000000,2000000,0,0,0,0,0,0,0,0,0,0\n\nnode,phase,kind,vn,p,q\nN1,A,P,1000000,100000,20000\n") (bytes "node,va_re,va_im,vb_re,vb_im,vc_re,vc_im\nS,720000,0,-360000,-623538,-360000,623538\nN1,715241,-1945,0,0,0,0\n\nfrom,to,ia_re,ia_im,ib_re,ib_im,ic_re,ic_im,loss_p,loss_q\nS,N1,13974,-2834,0,0,0,0,60990136,40666436\n\nsweeps,source_p,source_q,drawn_p,drawn_q,lost_p,lost_q\n4,10061280000,2040480000,10000289864,1999813564,60990136,40666436\n") ≡ Pass
+unfolding opened
+v3-00185 = refl
+
+-- S-3, 00221-report-719599
+v3-00221 : checkOf (bytes "source,va_re,va_im,vb_re,vb_im,vc_re,vc_im,tol,sweeps\nS,720000,0,-360000,-623538,-360000,623538,1000,20\n\nfrom,to,phases,kind,p1,p2,p3,p4,p5,p6,p7,p8,p9,p10,p11,p12\nS,N1,A,L,0,0,0,0,0,0,0,0,0,0,0,0\n\nnode,phase,kind,vn,p,q\nN1,A,P,1028000,72000,300\n") (bytes "node,va_re,va_im,vb_re,vb_im,vc_re,vc_im\nS,720000,0,-360000,-623538,-360000,623538\nN1,719599,0,0,0,0,0\n\nfrom,to,ia_re,ia_im,ib_re,ib_im,ic_re,ic_im,loss_p,loss_q\nS,N1,4903,-20,0,0,0,0,0,0\n\nsweeps,source_p,source_q,drawn_p,drawn_q,lost_p,lost_q\n1,3530160000,14400000,3528193897,14391980,0,0\n") ≡ Pass
+unfolding opened
+v3-00221 = refl
+
+-- S-3, 00261-rand-own
+v3-00261 : checkOf (bytes "source,va_re,va_im,vb_re,vb_im,vc_re,vc_im,tol,sweeps\nS,1000000,0,-500000,-866000,-500000,866000,1,50\n\nfrom,to,phases,kind,p1,p2,p3,p4,p5,p6,p7,p8,p9,p10,p11,p12\nN1,N2,A,L,4162677,3190106,0,0,0,0,0,0,0,0,0,0\nN0,N1,A,L,6097582,9404403,0,0,0,0,0,0,0,0,0,0\nS,N0,A,L,8952019,5359031,0,0,0,0,0,0,0,0,0,0\n\nnode,phase,kind,vn,p,q\nN2,A,P,1414286,910478,-265658\n") (bytes "node,va_re,va_im,vb_re,vb_im,vc_re,vc_im\nS,1000000,0,-500000,-866000,-500000,866000\nN2,930734,-93844,0,0,0,0\nN1,946308,-76563,0,0,0,0\nN0,965293,-30615,0,0,0,0\n\nfrom,to,ia_re,ia_im,ib_re,ib_im,ic_re,ic_im,loss_p,loss_q\nN1,N2,43613,8090,0,0,0,0,819032152,627682593\nN0,N1,43613,8090,0,0,0,0,1199712125,1850341474\nS,N0,43613,8090,0,0,0,0,1761351741,1054432365\n\nsweeps,source_p,source_q,drawn_p,drawn_q,lost_p,lost_q\n8,43613000000,-8090000000,39832903982,-11622456432,3780096018,3532456432\n") ≡ Pass
+unfolding opened
+v3-00261 = refl
+
+-- S-3, 00307-moved34-rand
+v3-00307 : checkOf (bytes "source,va_re,va_im,vb_re,vb_im,vc_re,vc_im,tol,sweeps\nJ24IHLPL,12000,0,-6095,-10866,-6000,10392,0,2\n\nfrom,to,phases,kind,p1,p2,p3,p4,p5,p6,p7,p8,p9,p10,p11,p12\nJ24IHLPL,9X,ABC,Y,1000,1000,882261,922372,853159,1847819,571616,403170,0,0,0,0\nJ24IHLPL,PH3Z,ABC,L,6834,11593,8034,3876,5116,-4794,18541,-11573,2970,3753,7170,-19994\n\nnode,phase,kind,vn,p,q\nJ24IHLPL,CA,I,20785,367,-106\n9X,A,Z,12000,0,-2\n9X,C,P,17142,0,0\nJ24IHLPL,C,Z,13832,257,276\nPH3Z,CA,P,20785,2,1\nJ24IHLPL,CA,P,19681,4,4\n9X,A,I,12000,2,0\nJ24IHLPL,AB,P,30153,1,1\n9X,BC,Z,20785,0,-1\n9X,CA,P,19158,36,-4\nJ24IHLPL,C,Z,12000,25,22\n9X,B,I,12000,18,3\nPH3Z,C,P,12000,999,-119\n9X,AB,P,30454,749,529\nPH3Z,A,Z,12000,38,43\nJ24IHLPL,AB,P,20785,6,0\n9X,CA,P,20785,159,173\n9X,B,P,17264,50,15\n9X,CA,P,20785,124,115\nPH3Z,CA,I,21737,6,1\n9X,B,Z,12000,242,-8\nPH3Z,BC,Z,20785,0,-7\n9X,CA,P,23384,0,0\nJ24IHLPL,A,P,11302,21,-1\n9X,BC,Z,20232,0,0\n") (bytes "node,va_re,va_im,vb_re,vb_im,vc_re,vc_im\nJ24IHLPL,12000,0,-6095,-10866,-6000,10392\n9X,11564,-52,-6150,-10116,-5882,10303\nPH3Z,11999,-6,-6091,-10866,-6010,10377\n\nfrom,to,ia_re,ia_im,ib_re,ib_im,ic_re,ic_im,loss_p,loss_q\nJ24IHLPL,9X,2660,-2188,-3230,-1790,-643,2006,2465242,3792719\nJ24IHLPL,PH3Z,344,-385,34,0,-5096,6739,48023,-141381\n\nsweeps,source_p,source_q,drawn_p,drawn_q,lost_p,lost_q\n2,261956489,60233194,259443224,56581856,2513265,3651338\n") ≡ Pass
+unfolding opened
+v3-00307 = refl
+
+-- S-3, 00369-rand-own
+v3-00369 : checkOf (bytes "source,va_re,va_im,vb_re,vb_im,vc_re,vc_im,tol,sweeps\nP7VA,720000,0,-350684,-607402,-381601,610557,1,3\n\nfrom,to,phases,kind,p1,p2,p3,p4,p5,p6,p7,p8,p9,p10,p11,p12\nP7VA,RQIT,ABC,Y,2400,2400,52169878,61782300,26450783,43161470,74919274,47729931,0,0,0,0\nRQIT,XI9JPRUP,B,L,0,0,0,0,0,0,69564657,28276887,0,0,0,0\nXI9JPRUP,ACCK,B,L,0,0,0,0,0,0,1,1,0,0,0,0\n\nnode,phase,kind,vn,p,q\n") (bytes "node,va_re,va_im,vb_re,vb_im,vc_re,vc_im\nP7VA,720000,0,-350684,-607402,-381601,610557\nRQIT,720000,0,-350684,-607402,-381601,610557\nXI9JPRUP,0,0,-350684,-607402,0,0\nACCK,0,0,-350684,-607402,0,0\n\nfrom,to,ia_re,ia_im,ib_re,ib_im,ic_re,ic_im,loss_p,loss_q\nP7VA,RQIT,0,0,0,0,0,0,0,0\nRQIT,XI9JPRUP,0,0,0,0,0,0,0,0\nXI9JPRUP,ACCK,0,0,0,0,0,0,0,0\n\nsweeps,source_p,source_q,drawn_p,drawn_q,lost_p,lost_q\n1,0,0,0,0,0,0\n") ≡ Pass
+unfolding opened
+v3-00369 = refl
+
+-- S-3, 00420-rand-own
+v3-00420 : checkOf (bytes "source,va_re,va_im,vb_re,vb_im,vc_re,vc_im,tol,sweeps\nBOQ,-11774,1811,7292,9087,5313,-10760,20,1\n\nfrom,to,phases,kind,p1,p2,p3,p4,p5,p6,p7,p8,p9,p10,p11,p12\nBOQ,8P8X,ABC,R,8,-4,-15,0,0,0,0,0,0,0,0,0\n8P8X,E1CUQIZW,ABC,L,-252,-103,0,0,-78,63,-220,384,-143,81,-130,-372\nE1CUQIZW,SI3,ABC,L,37282,99442,15331,26536,46702,32568,64914,63293,0,0,93293,108656\nSI3,0,ABC,L,777066,-822928,212850,405470,427086,292518,482502,-959035,125154,201713,993925,417858\n0,1MB,ABC,D,58265,34410,5399084,4183925,9944251,8870877,7275927,2884466,0,0,0,0\nE1CUQIZW,9,ABC,L,257,285,0,0,115,54,234,264,48,94,151,220\n9,DH,ABC,D,406,240,6,18,22,24,13,11,0,0,0,0\nDH,G8U,BC,R,0,-10,1,0,0,0,0,0,0,0,0,0\nG8U,OLF,BC,R,0,4,-7,0,0,0,0,0,0,0,0,0\nOLF,QT,B,L,0,0,0,0,0,0,0,0,0,0,0,0\nQT,LBQ,B,L,0,0,0,0,0,0,6969,10342,0,0,0,0\nLBQ,ASW,B,L,0,0,0,0,0,0,85886,116343,0,0,0,0\nASW,UWG,B,L,0,0,0,0,0,0,37215,68519,0,0,0,0\nUWG,BS06,B,R,0,-13,0,0,0,0,0,0,0,0,0,0\nBS06,0V0,B,L,0,0,0,0,0,0,1246,1104,0,0,0,0\n0V0,BGO8C4UB,B,L,0,0,0,0,0,0,46244,-73866,0,0,0,0\nBGO8C4UB,191,B,L,0,0,0,0,0,0,782,-1188,0,0,0,0\n191,71F,B,L,0,0,0,0,0,0,0,0,0,0,0,0\n71F,FB,B,R,0,4,0,0,0,0,0,0,0,0,0,0\nFB,3MYH1KBT,B,L,0,0,0,0,0,0,7372892,-4239795,0,0,0,0\n\nnode,phase,kind,vn,p,q\nQT,B,Z,11574,0,-458\nG8U,C,Z,9478,0,0\n71F,B,I,10704,-4,6\n") (bytes "node,va_re,va_im,vb_re,vb_im,vc_re,vc_im\nBOQ,-11774,1811,7292,9087,5313,-10760\n8P8X,-12394,1906,7114,8865,4858,-9838\nE1CUQIZW,-12394,1906,7114,8865,4858,-9838\nSI3,-12394,1906,7114,8865,4858,-9838\n0,-12394,1906,7114,8865,4858,-9838\n1MB,-10189,6936,11521,4110,-1332,-11046\n9,-12394,1906,7114,8865,4858,-9838\nDH,-10198,6942,11532,4114,-1334,-11056\nG8U,0,0,10854,3872,-1342,-11126\nOLF,0,0,11132,3971,-1286,-10660\nQT,0,0,11132,3971,0,0\nLBQ,0,0,11132,3971,0,0\nASW,0,0,11132,3971,0,0\nUWG,0,0,11132,3971,0,0\nBS06,0,0,10295,3673,0,0\n0V0,0,0,10295,3673,0,0\nBGO8C4UB,0,0,10295,3673,0,0\n191,0,0,10295,3673,0,0\n71F,0,0,10295,3673,0,0\nFB,0,0,10559,3767,0,0\n3MYH1KBT,0,0,10559,3767,0,0\n\nfrom,to,ia_re,ia_im,ib_re,ib_im,ic_re,ic_im,loss_p,loss_q\nBOQ,8P8X,783,-2138,-783,2138,0,0,0,0\n8P8X,E1CUQIZW,783,-2138,-783,2138,0,0,0,0\nE1CUQIZW,SI3,0,0,0,0,0,0,0,0\nSI3,0,0,0,0,0,0,0,0,0\n0,1MB,0,0,0,0,0,0,0,0\nE1CUQIZW,9,783,-2138,-783,2138,0,0,0,0\n9,DH,0,0,-1325,3616,0,0,0,0\nDH,G8U,0,0,-1408,3842,0,0,0,0\nG8U,OLF,0,0,-1373,3746,0,0,0,0\nOLF,QT,0,0,-1373,3746,0,0,0,0\nQT,LBQ,0,0,-15,-60,0,0,0,0\nLBQ,ASW,0,0,-15,-60,0,0,45,75\nASW,UWG,0,0,-15,-60,0,0,0,0\nUWG,BS06,0,0,-16,-65,0,0,0,0\nBS06,0V0,0,0,-16,-65,0,0,0,0\n0V0,BGO8C4UB,0,0,-16,-65,0,0,16,-65\nBGO8C4UB,191,0,0,-16,-65,0,0,0,0\n191,71F,0,0,-16,-65,0,0,0,0\n71F,FB,0,0,0,0,0,0,0,0\nFB,3MYH1KBT,0,0,0,0,0,0,0,0\n\nsweeps,source_p,source_q,drawn_p,drawn_q,lost_p,lost_q\n1,-393943,-47164590,-407095,-47150603,61,10\n") ≡ Pass
+unfolding opened
+v3-00420 = refl
+
+-- S-3, 00481-moved-alltol
+v3-00481 : checkOf (bytes "source,va_re,va_im,vb_re,vb_im,vc_re,vc_im,tol,sweeps\nWQ,-1529112,451541,0,9647,2000000,-2,0,100\n\nfrom,to,phases,kind,p1,p2,p3,p4,p5,p6,p7,p8,p9,p10,p11,p12\nWQ,Q,ABC,L,1,-49235,16284713,1,100000000,-100000000,1,41511230,73588,100000000,0,100000000\n\nnode,phase,kind,vn,p,q\n") (bytes "node,va_re,va_im,vb_re,vb_im,vc_re,vc_im\nWQ,-1529112,451541,0,9647,2000000,-2\nQ,-1529112,451541,0,9647,2000000,-2\n\nfrom,to,ia_re,ia_im,ib_re,ib_im,ic_re,ic_im,loss_p,loss_q\nWQ,Q,0,0,0,0,0,0,0,0\n\nsweeps,source_p,source_q,drawn_p,drawn_q,lost_p,lost_q\n69,0,0,0,0,0,0\n") ≡ Pass
+unfolding opened
+v3-00481 = refl

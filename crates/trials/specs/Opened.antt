@@ -11,7 +11,7 @@ use Rattle.text.specs.Text.{bytes, more, natural, number, name, pack, word, beg
 use Rattle.text.specs.Lines.{names, numbers, row, text, listed, rowText}
 use Rattle.feeder.specs.Layout.{branchRow, loadRow, rows, sourceTable, branchTable, loadTable, layout}
 use Rattle.feeder.specs.Feeder.{firstRow, orElse, columnOf, sourceIn, branchIn, loadIn, outOfLimit, placeOf, nodesOf, unknownFrom, secondTo, deviceOf, feederOf, branchAt, phasesOf, above, notReached, phaseAbsent, zeros, notZero, reading}
-use Rattle.equations.specs.Equations.{each, plus3, minus3, sum3, masked, mix, voltageOn, rated, weight, currentAt, loadCurrent, zOf, dropOf, throughOf, takenOf, farVoltage, nearCurrent, downward, voltages, loadsAt, upward, currents, power, lossOf, sourcePower, drawnPower, lostPower, beyond, beyond3, zeroVoltage, loadBeyond, currentBeyond, voltageBeyond}
+use Rattle.equations.specs.Equations.{each, plus3, minus3, sum3, masked, mix, voltageOn, rated, weight, actsAs, currentAt, loadCurrent, zOf, dropOf, throughOf, takenOf, farVoltage, nearCurrent, downward, voltages, loadsAt, upward, currents, power, lossOf, sourcePower, drawnPower, lostPower, beyond, beyond3, zeroVoltage, loadBeyond, currentBeyond, voltageBeyond}
 use Rattle.report.specs.Report.{nameText, nodeLine, branchLine, totalsLine, nodesText, branchesText, totalsText, reportText, reportedText, rowsJust, tableOf, lastRow, reportOf, reportedVoltages, reportedCurrents, reportedLosses}
 use Rattle.iteration.specs.Ladder.{settled, sweep, solution}
 use Rattle.ladder.specs.Study.{report, fitted, studyOf, bufferOf}
@@ -24,7 +24,7 @@ use Rattle.check_answer.specs.CheckAnswer.{checkText}
 
 -- says nothing by itself
 unfoldable pub opened : Unit {0}
-unfolding near rnd rootBy root digitsBy binaryDigits _+c_ _-c_ _·c_ _·*_ scaled rndPair abs square inside within close same csum nsum all any tab count bytes more natural number name pack word begins digits decimal letters line joined names numbers row text listed rowText branchRow loadRow rows sourceTable branchTable loadTable layout firstRow orElse columnOf sourceIn branchIn loadIn outOfLimit placeOf nodesOf unknownFrom secondTo deviceOf feederOf branchAt phasesOf above notReached phaseAbsent zeros notZero reading each plus3 minus3 sum3 masked mix voltageOn rated weight currentAt loadCurrent zOf dropOf throughOf takenOf farVoltage nearCurrent downward voltages loadsAt upward currents power lossOf sourcePower drawnPower lostPower beyond beyond3 zeroVoltage loadBeyond currentBeyond voltageBeyond nameText nodeLine branchLine totalsLine nodesText branchesText totalsText reportText reportedText rowsJust tableOf lastRow reportOf reportedVoltages reportedCurrents reportedLosses settled sweep solution report fitted studyOf bufferOf nameDiffers sourceDiffers currentDiffers totalDiffers off belowOff voltageOff compared checked checkOf ratingOf rating exactLoss accounted loadAllowance over branchAllowance allowance difference refusedLine wholeOrNothing studyText checkText
+unfolding near rnd rootBy root digitsBy binaryDigits _+c_ _-c_ _·c_ _·*_ scaled rndPair abs square inside within close same csum nsum all any tab count bytes more natural number name pack word begins digits decimal letters line joined names numbers row text listed rowText branchRow loadRow rows sourceTable branchTable loadTable layout firstRow orElse columnOf sourceIn branchIn loadIn outOfLimit placeOf nodesOf unknownFrom secondTo deviceOf feederOf branchAt phasesOf above notReached phaseAbsent zeros notZero reading each plus3 minus3 sum3 masked mix voltageOn rated weight actsAs currentAt loadCurrent zOf dropOf throughOf takenOf farVoltage nearCurrent downward voltages loadsAt upward currents power lossOf sourcePower drawnPower lostPower beyond beyond3 zeroVoltage loadBeyond currentBeyond voltageBeyond nameText nodeLine branchLine totalsLine nodesText branchesText totalsText reportText reportedText rowsJust tableOf lastRow reportOf reportedVoltages reportedCurrents reportedLosses settled sweep solution report fitted studyOf bufferOf nameDiffers sourceDiffers currentDiffers totalDiffers off belowOff voltageOff compared checked checkOf ratingOf rating exactLoss accounted loadAllowance over branchAllowance allowance difference refusedLine wholeOrNothing studyText checkText
 opened = tt
 
 -- the power account's numbers for a feeder's and a report's text

@@ -43,18 +43,13 @@ check-24 : checkOf (bytes "source,va_re,va_im,vb_re,vb_im,vc_re,vc_im,tol,sweeps
 unfolding opened
 check-24 = refl
 
--- 00726-order-30-over-53
-check-30 : checkOf (bytes "source,va_re,va_im,vb_re,vb_im,vc_re,vc_im,tol,sweeps\nS,720000,0,-360000,-623538,-360000,623538,1,20\n\nfrom,to,phases,kind,p1,p2,p3,p4,p5,p6,p7,p8,p9,p10,p11,p12\nS,N1,A,L,1000000,0,0,0,0,0,0,0,0,0,0,0\n\nnode,phase,kind,vn,p,q\nN1,A,P,720000,72000,0\n") (bytes "node,va_re,va_im,vb_re,vb_im,vc_re,vc_im\nS,720000,0,-360000,-623538,-360000,623538\nN1,0,0,0,0,0,0\n\nfrom,to,ia_re,ia_im,ib_re,ib_im,ic_re,ic_im,loss_p,loss_q\nS,N1,1,1,0,0,0,0,1,1\n\nsweeps,source_p,source_q,drawn_p,drawn_q,lost_p,lost_q\n1,1,1,1,1,1,1\n") ≡ Fail (ZeroVoltage 0)
+-- 01099-hit-zero
+check-30 : checkOf (bytes "source,va_re,va_im,vb_re,vb_im,vc_re,vc_im,tol,sweeps\n4P,239822,-9233,-117371,-209342,-127516,214572,20,10\n\nfrom,to,phases,kind,p1,p2,p3,p4,p5,p6,p7,p8,p9,p10,p11,p12\n4P,YHE5,AB,L,433786,311304,112054,243134,0,0,826996,-465013,0,0,0,0\n\nnode,phase,kind,vn,p,q\n4P,C,Z,240000,1796,241\nYHE5,A,I,240000,31355,297\n") (bytes "node,va_re,va_im,vb_re,vb_im,vc_re,vc_im\n4P,239822,-9233,-117371,-209342,-127516,214572\nYHE5,0,0,-117532,-209652,0,0\n\nfrom,to,ia_re,ia_im,ib_re,ib_im,ic_re,ic_im,loss_p,loss_q\n4P,YHE5,0,0,0,0,0,0,0,0\n\nsweeps,source_p,source_q,drawn_p,drawn_q,lost_p,lost_q\n1,0,0,0,0,0,0\n") ≡ Fail (ZeroVoltage 0)
 unfolding opened
 check-30 = refl
 
--- 00719-32-check-J-3599
-check-31 : checkOf (bytes "source,va_re,va_im,vb_re,vb_im,vc_re,vc_im,tol,sweeps\nS,720000,0,-360000,-623538,-360000,623538,1,20\n\nfrom,to,phases,kind,p1,p2,p3,p4,p5,p6,p7,p8,p9,p10,p11,p12\nS,N1,A,R,16,0,0,0,0,0,0,0,0,0,0,0\n\nnode,phase,kind,vn,p,q\nN1,A,P,720000,72000,0\n") (bytes "node,va_re,va_im,vb_re,vb_im,vc_re,vc_im\nS,720000,0,-360000,-623538,-360000,623538\nN1,3599,0,0,0,0,0\n\nfrom,to,ia_re,ia_im,ib_re,ib_im,ic_re,ic_im,loss_p,loss_q\nS,N1,0,0,0,0,0,0,0,0\n\nsweeps,source_p,source_q,drawn_p,drawn_q,lost_p,lost_q\n1,0,0,0,0,0,0\n") ≡ Fail (LoadBeyond 0)
-unfolding opened
-check-31 = refl
-
--- 00720-32-check-J-3600
-check-32 : checkOf (bytes "source,va_re,va_im,vb_re,vb_im,vc_re,vc_im,tol,sweeps\nS,720000,0,-360000,-623538,-360000,623538,1,20\n\nfrom,to,phases,kind,p1,p2,p3,p4,p5,p6,p7,p8,p9,p10,p11,p12\nS,N1,A,R,16,0,0,0,0,0,0,0,0,0,0,0\n\nnode,phase,kind,vn,p,q\nN1,A,P,720000,72000,0\n") (bytes "node,va_re,va_im,vb_re,vb_im,vc_re,vc_im\nS,720000,0,-360000,-623538,-360000,623538\nN1,3600,0,0,0,0,0\n\nfrom,to,ia_re,ia_im,ib_re,ib_im,ic_re,ic_im,loss_p,loss_q\nS,N1,0,0,0,0,0,0,0,0\n\nsweeps,source_p,source_q,drawn_p,drawn_q,lost_p,lost_q\n1,0,0,0,0,0,0\n") ≡ Fail (CurrentBeyond 0)
+-- 00713-32-overflow
+check-32 : checkOf (bytes "source,va_re,va_im,vb_re,vb_im,vc_re,vc_im,tol,sweeps\nS,2000000,0,2000000,0,2000000,0,1000,5\n\nfrom,to,phases,kind,p1,p2,p3,p4,p5,p6,p7,p8,p9,p10,p11,p12\nS,N0,ABC,Y,1,1000000,0,0,0,0,0,0,0,0,0,0\nN0,N1,ABC,Y,1,1000000,0,0,0,0,0,0,0,0,0,0\nN1,N2,ABC,Y,1,1000000,0,0,0,0,0,0,0,0,0,0\nN2,N3,ABC,Y,1,1000000,0,0,0,0,0,0,0,0,0,0\nN3,N4,ABC,Y,1,1000000,0,0,0,0,0,0,0,0,0,0\nN4,N5,ABC,Y,1,1000000,0,0,0,0,0,0,0,0,0,0\n\nnode,phase,kind,vn,p,q\nN5,A,Z,2000000,3000000,0\n") (bytes "node,va_re,va_im,vb_re,vb_im,vc_re,vc_im\nS,2000000,0,2000000,0,2000000,0\nN0,2000000,0,2000000,0,2000000,0\nN1,2000000,0,2000000,0,2000000,0\nN2,2000000,0,2000000,0,2000000,0\nN3,2000000,0,2000000,0,2000000,0\nN4,2000000,0,2000000,0,2000000,0\nN5,2000000,0,2000000,0,2000000,0\n\nfrom,to,ia_re,ia_im,ib_re,ib_im,ic_re,ic_im,loss_p,loss_q\nS,N0,0,0,0,0,0,0,0,0\nN0,N1,0,0,0,0,0,0,0,0\nN1,N2,0,0,0,0,0,0,0,0\nN2,N3,0,0,0,0,0,0,0,0\nN3,N4,0,0,0,0,0,0,0,0\nN4,N5,0,0,0,0,0,0,0,0\n\nsweeps,source_p,source_q,drawn_p,drawn_q,lost_p,lost_q\n1,0,0,0,0,0,0\n") ≡ Fail (CurrentBeyond 0)
 unfolding opened
 check-32 = refl
 
@@ -73,8 +68,8 @@ check-52 : checkOf (bytes "source,va_re,va_im,vb_re,vb_im,vc_re,vc_im,tol,sweeps
 unfolding opened
 check-52 = refl
 
--- 00722-32-check-J-4000
-check-53 : checkOf (bytes "source,va_re,va_im,vb_re,vb_im,vc_re,vc_im,tol,sweeps\nS,720000,0,-360000,-623538,-360000,623538,1,20\n\nfrom,to,phases,kind,p1,p2,p3,p4,p5,p6,p7,p8,p9,p10,p11,p12\nS,N1,A,R,16,0,0,0,0,0,0,0,0,0,0,0\n\nnode,phase,kind,vn,p,q\nN1,A,P,720000,72000,0\n") (bytes "node,va_re,va_im,vb_re,vb_im,vc_re,vc_im\nS,720000,0,-360000,-623538,-360000,623538\nN1,4000,0,0,0,0,0\n\nfrom,to,ia_re,ia_im,ib_re,ib_im,ic_re,ic_im,loss_p,loss_q\nS,N1,0,0,0,0,0,0,0,0\n\nsweeps,source_p,source_q,drawn_p,drawn_q,lost_p,lost_q\n1,0,0,0,0,0,0\n") ≡ Fail (CurrentDiffers 6)
+-- 00719-32-check-J-3599
+check-53 : checkOf (bytes "source,va_re,va_im,vb_re,vb_im,vc_re,vc_im,tol,sweeps\nS,720000,0,-360000,-623538,-360000,623538,1,20\n\nfrom,to,phases,kind,p1,p2,p3,p4,p5,p6,p7,p8,p9,p10,p11,p12\nS,N1,A,R,16,0,0,0,0,0,0,0,0,0,0,0\n\nnode,phase,kind,vn,p,q\nN1,A,P,720000,72000,0\n") (bytes "node,va_re,va_im,vb_re,vb_im,vc_re,vc_im\nS,720000,0,-360000,-623538,-360000,623538\nN1,3599,0,0,0,0,0\n\nfrom,to,ia_re,ia_im,ib_re,ib_im,ic_re,ic_im,loss_p,loss_q\nS,N1,0,0,0,0,0,0,0,0\n\nsweeps,source_p,source_q,drawn_p,drawn_q,lost_p,lost_q\n1,0,0,0,0,0,0\n") ≡ Fail (CurrentDiffers 6)
 unfolding opened
 check-53 = refl
 
@@ -83,8 +78,8 @@ check-54 : checkOf (bytes "source,va_re,va_im,vb_re,vb_im,vc_re,vc_im,tol,sweeps
 unfolding opened
 check-54 = refl
 
--- 01061-multi
-check-55 : checkOf (bytes "source,va_re,va_im,vb_re,vb_im,vc_re,vc_im,tol,sweeps\nS,9,4,-5,8,-6,1,0,10\n\nfrom,to,phases,kind,p1,p2,p3,p4,p5,p6,p7,p8,p9,p10,p11,p12\nS,N0,B,L,0,0,0,0,0,0,5000000,5000000,0,0,0,0\n\nnode,phase,kind,vn,p,q\nS,A,P,22806,2,0\n") (bytes "node,va_re,va_im,vb_re,vb_im,vc_re,vc_im\nS,9,4,-5,8,-6,1\nN0,0,0,-5,8,0,0\n\nfrom,to,ia_re,ia_im,ib_re,ib_im,ic_re,ic_im,loss_p,loss_q\nS,N0,0,0,0,0,0,0,1,0\n\nsweeps,source_p,source_q,drawn_p,drawn_q,lost_p,lost_q\n1,0,5,200001,5,1,0\n") ≡ Fail TotalDiffers
+-- 00988-tiny-own
+check-55 : checkOf (bytes "source,va_re,va_im,vb_re,vb_im,vc_re,vc_im,tol,sweeps\nS,22,-36,6,-13,29,34,2,20\n\nfrom,to,phases,kind,p1,p2,p3,p4,p5,p6,p7,p8,p9,p10,p11,p12\n\nnode,phase,kind,vn,p,q\nS,C,I,1292,0,3\nS,B,P,476,0,-3\n") (bytes "node,va_re,va_im,vb_re,vb_im,vc_re,vc_im\nS,22,-36,6,-13,29,34\n\nfrom,to,ia_re,ia_im,ib_re,ib_im,ic_re,ic_im,loss_p,loss_q\n\nsweeps,source_p,source_q,drawn_p,drawn_q,lost_p,lost_q\n1,-7,-289469,-7,-289469,0,0\n") ≡ Fail TotalDiffers
 unfolding opened
 check-55 = refl
 

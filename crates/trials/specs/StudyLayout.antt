@@ -190,3 +190,8 @@ v1-00094 = refl
 v1-00501 : studyOf (bytes "source,va_re,va_im,vb_re,vb_im,vc_re,vc_im,tol,sweeps\nÄ,1207483,0,-539015,-1096862,-763944,896364,1,-999999999999999999\n\nfrom,to,phases,kind,p1,p2,p3,p4,p5,p6,p7,p8,p9,p10,p11,p12\nUJKX,W2OY,ABC,Y,100000,1000,45201361,56147314,34193216,88377464,70593683,24214118,0,0,0,0\n\nnode,phase,kind,vn,p,q\n") 1000000 ≡ NoReport (Layout 2)
 unfolding opened
 v1-00501 = refl
+
+-- S-3, 00387-faults
+v3-00387 : studyOf (bytes "source,va_re,va_im,vb_re,vb_im,vc_re,vc_im,tol,sweeps\nRWY,544482,471104,154664,-703192,-673336,247214,20,20\n\nfrom,to,phases,kind,p1,p2,p3,p4,p5,p6,p7,p8,p9,p10,p11,p12\nZP,ZP,ABC,R,11,8,-6,0,0,0,0,0,0,0,0,0\nZP,ZP,B,D,2,1,0,0,0,0,0,0,0,0,0,0\n\nnode,phase,kind,vn,p,q\nZP,BC,Z,1275609,0,-11128\nZP,,I,720000,40592,28917\nZP,B,Z,720000,33816,12537\nZP,C,P,1024691,-1,-1592\n7O,B,I,2000001,70610,30642\n") 1000000 ≡ NoReport (Layout 10)
+unfolding opened
+v3-00387 = refl

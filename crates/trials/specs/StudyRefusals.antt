@@ -36,30 +36,35 @@ v00891 : studyOf (bytes "source,va_re,va_im,vb_re,vb_im,vc_re,vc_im,tol,sweeps\n
 unfolding opened
 v00891 = refl
 
--- 00048-30-sweep3
-v00048 : studyOf (bytes "source,va_re,va_im,vb_re,vb_im,vc_re,vc_im,tol,sweeps\nS,720000,0,-360000,-623538,-360000,623538,1,20\n\nfrom,to,phases,kind,p1,p2,p3,p4,p5,p6,p7,p8,p9,p10,p11,p12\nS,N1,A,L,36000000,0,0,0,0,0,0,0,0,0,0,0\n\nnode,phase,kind,vn,p,q\nN1,A,P,720000,720000,0\n") 1000000 ≡ NoReport (ZeroVoltage 3)
+-- 00081-31-edge-q
+v00081 : studyOf (bytes "source,va_re,va_im,vb_re,vb_im,vc_re,vc_im,tol,sweeps\nS,100000,0,-360000,-623538,-360000,623538,1,20\n\nfrom,to,phases,kind,p1,p2,p3,p4,p5,p6,p7,p8,p9,p10,p11,p12\nS,N1,A,L,0,0,0,0,0,0,0,0,0,0,0,0\n\nnode,phase,kind,vn,p,q\nN1,A,Z,100000,0,-2000001\n") 1000000 ≡ NoReport (LoadBeyond 1)
 unfolding opened
-v00048 = refl
+v00081 = refl
+
+-- 00132-32-J-reg-1800001
+v00132 : studyOf (bytes "source,va_re,va_im,vb_re,vb_im,vc_re,vc_im,tol,sweeps\nS,90000,0,90000,0,90000,0,1,20\n\nfrom,to,phases,kind,p1,p2,p3,p4,p5,p6,p7,p8,p9,p10,p11,p12\nS,N1,A,R,16,0,0,0,0,0,0,0,0,0,0,0\n\nnode,phase,kind,vn,p,q\nN1,A,P,100000,1800001,0\n") 1000000 ≡ NoReport (CurrentBeyond 1)
+unfolding opened
+v00132 = refl
+
+-- 00182-33-sweep1-and-settled
+v00182 : studyOf (bytes "source,va_re,va_im,vb_re,vb_im,vc_re,vc_im,tol,sweeps\nS,2000000,0,-360000,-623538,-360000,623538,1,20\n\nfrom,to,phases,kind,p1,p2,p3,p4,p5,p6,p7,p8,p9,p10,p11,p12\nS,N1,A,L,-1000000,0,0,0,0,0,0,0,0,0,0,0\n\nnode,phase,kind,vn,p,q\nN1,A,P,720000,200,0\n") 1000000 ≡ NoReport (VoltageBeyond 1)
+unfolding opened
+v00182 = refl
 
 -- 00093-31-sweep2
-v00093 : studyOf (bytes "source,va_re,va_im,vb_re,vb_im,vc_re,vc_im,tol,sweeps\nS,720000,0,-360000,-623538,-360000,623538,1,20\n\nfrom,to,phases,kind,p1,p2,p3,p4,p5,p6,p7,p8,p9,p10,p11,p12\nS,N1,A,L,71999900,0,0,0,0,0,0,0,0,0,0,0\n\nnode,phase,kind,vn,p,q\nN1,A,P,720000,720000,0\n") 1000000 ≡ NoReport (LoadBeyond 2)
+v00093 : studyOf (bytes "source,va_re,va_im,vb_re,vb_im,vc_re,vc_im,tol,sweeps\nS,720000,0,-360000,-623538,-360000,623538,1,20\n\nfrom,to,phases,kind,p1,p2,p3,p4,p5,p6,p7,p8,p9,p10,p11,p12\nS,N1,A,L,71999900,0,0,0,0,0,0,0,0,0,0,0\n\nnode,phase,kind,vn,p,q\nN1,A,P,720000,720000,0\n") 1000000 ≡ NoReport (NotSettled 20)
 unfolding opened
 v00093 = refl
 
--- 01130-edgy
-v01130 : studyOf (bytes "source,va_re,va_im,vb_re,vb_im,vc_re,vc_im,tol,sweeps\nS,200000,0,200000,0,200000,0,0,1\n\nfrom,to,phases,kind,p1,p2,p3,p4,p5,p6,p7,p8,p9,p10,p11,p12\nS,N0,ABC,Y,7,5,0,0,0,0,0,0,0,0,0,0\nN0,N1,ABC,Y,2,3,0,0,0,0,0,0,0,0,0,0\n\nnode,phase,kind,vn,p,q\nN1,A,P,214286,3000000,0\n") 1000000 ≡ NoReport (CurrentBeyond 1)
+-- 00229-34-tol0-limit100
+v00229 : studyOf (bytes "source,va_re,va_im,vb_re,vb_im,vc_re,vc_im,tol,sweeps\nS,720000,0,-360000,-623538,-360000,623538,0,100\n\nfrom,to,phases,kind,p1,p2,p3,p4,p5,p6,p7,p8,p9,p10,p11,p12\nS,N1,A,L,17000000,0,0,0,0,0,0,0,0,0,0,0\n\nnode,phase,kind,vn,p,q\nN1,A,P,720000,720000,0\n") 1000000 ≡ NoReport (NotSettled 100)
 unfolding opened
-v01130 = refl
+v00229 = refl
 
--- 00927-wild
-v00927 : studyOf (bytes "source,va_re,va_im,vb_re,vb_im,vc_re,vc_im,tol,sweeps\nH,-1834942,-2000000,-1,2,2000000,-2000000,1000,100\n\nfrom,to,phases,kind,p1,p2,p3,p4,p5,p6,p7,p8,p9,p10,p11,p12\nH,PSSW,ABC,D,8,1,38383229,-59211796,-490,1,-100000000,1,0,0,0,0\nH,ZYAW,ABC,L,0,0,0,0,0,0,0,0,0,0,1,-1\nH,9,ABC,R,13,8,14,0,0,0,0,0,0,0,0,0\nPSSW,YF4VW2QZ,ABC,R,2,-9,-11,0,0,0,0,0,0,0,0,0\n\nnode,phase,kind,vn,p,q\nH,B,Z,1831536,-2705015,17675\nZYAW,C,P,2000000,-3000000,0\nH,B,I,720000,6041,-3448\nH,B,I,2000000,-1,-2859956\n9,C,Z,2000000,3000000,-71098\nH,A,Z,620637,0,-12\n9,A,Z,321587,-581025,-266092\nPSSW,A,I,4,-253514,-1\nZYAW,C,I,673396,255,-399\nYF4VW2QZ,B,I,5359,11,-5\nPSSW,C,P,6370,178,143\n9,A,I,369217,3000000,1344246\n") 1000000 ≡ NoReport (VoltageBeyond 0)
+-- 01007-hard-34less
+v01007 : studyOf (bytes "source,va_re,va_im,vb_re,vb_im,vc_re,vc_im,tol,sweeps\nS,1800000,0,-900000,-1558800,-900000,1558800,1,9\n\nfrom,to,phases,kind,p1,p2,p3,p4,p5,p6,p7,p8,p9,p10,p11,p12\nN1,N2,ABC,L,5605802,10226330,1401450,2556582,0,0,5605802,10226330,0,0,5605802,10226330\nN0,N1,ABC,L,20160563,51239153,5040140,12809788,0,0,20160563,51239153,0,0,20160563,51239153\nS,N0,ABC,L,17064727,39716712,4266181,9929178,0,0,17064727,39716712,0,0,17064727,39716712\n\nnode,phase,kind,vn,p,q\nN2,A,P,1800000,719942,53797\nN1,A,Z,1800000,0,-31765\nN2,B,P,1800000,709832,-131721\nN2,C,P,1800000,719178,-63200\n") 1000000 ≡ NoReport (NotSettled 9)
 unfolding opened
-v00927 = refl
-
--- 00228-34-near-collapse
-v00228 : studyOf (bytes "source,va_re,va_im,vb_re,vb_im,vc_re,vc_im,tol,sweeps\nS,720000,0,-360000,-623538,-360000,623538,0,100\n\nfrom,to,phases,kind,p1,p2,p3,p4,p5,p6,p7,p8,p9,p10,p11,p12\nS,N1,A,L,18000000,0,0,0,0,0,0,0,0,0,0,0\n\nnode,phase,kind,vn,p,q\nN1,A,P,720000,720000,0\n") 1000000 ≡ NoReport (NotSettled 100)
-unfolding opened
-v00228 = refl
+v01007 = refl
 
 -- 00011-source-alone-buf1
 v00011 : studyOf (bytes "source,va_re,va_im,vb_re,vb_im,vc_re,vc_im,tol,sweeps\nS,720000,0,-360000,-623538,-360000,623538,1,20\n\nfrom,to,phases,kind,p1,p2,p3,p4,p5,p6,p7,p8,p9,p10,p11,p12\n\nnode,phase,kind,vn,p,q\n") 1 ≡ NoReport (BufferShort 212)
@@ -101,25 +106,20 @@ v00201 : studyOf (bytes "source,va_re,va_im,vb_re,vb_im,vc_re,vc_im,tol,sweeps\n
 unfolding opened
 v00201 = refl
 
--- 00231-34-tol0-limit100-buf0
-v00231 : studyOf (bytes "source,va_re,va_im,vb_re,vb_im,vc_re,vc_im,tol,sweeps\nS,720000,0,-360000,-623538,-360000,623538,0,100\n\nfrom,to,phases,kind,p1,p2,p3,p4,p5,p6,p7,p8,p9,p10,p11,p12\nS,N1,A,L,17000000,0,0,0,0,0,0,0,0,0,0,0\n\nnode,phase,kind,vn,p,q\nN1,A,P,720000,720000,0\n") 0 ≡ NoReport (BufferShort 300)
+-- 00259-tie-load-buf0
+v00259 : studyOf (bytes "source,va_re,va_im,vb_re,vb_im,vc_re,vc_im,tol,sweeps\nS,200000,0,-360000,-623538,-360000,623538,0,20\n\nfrom,to,phases,kind,p1,p2,p3,p4,p5,p6,p7,p8,p9,p10,p11,p12\nS,N1,A,L,0,0,0,0,0,0,0,0,0,0,0,0\n\nnode,phase,kind,vn,p,q\nN1,A,Z,200000,1,-1\nN1,A,P,200000,1,-1\nN1,A,I,200000,-1,1\n") 0 ≡ NoReport (BufferShort 275)
 unfolding opened
-v00231 = refl
+v00259 = refl
 
--- 00267-tie-Y-buf1
-v00267 : studyOf (bytes "source,va_re,va_im,vb_re,vb_im,vc_re,vc_im,tol,sweeps\nS,1,-1,3,-3,5,-5,0,20\n\nfrom,to,phases,kind,p1,p2,p3,p4,p5,p6,p7,p8,p9,p10,p11,p12\nS,N,ABC,Y,2,1,0,0,0,0,0,0,0,0,0,0\n\nnode,phase,kind,vn,p,q\nN,A,Z,1,1,1\n") 1 ≡ NoReport (BufferShort 250)
+-- 00281-root-not-square-buf1
+v00281 : studyOf (bytes "source,va_re,va_im,vb_re,vb_im,vc_re,vc_im,tol,sweeps\nS,3,4,2,3,-1,1,0,20\n\nfrom,to,phases,kind,p1,p2,p3,p4,p5,p6,p7,p8,p9,p10,p11,p12\n\nnode,phase,kind,vn,p,q\nS,A,I,7,1,-1\nS,B,I,9,2,1\nS,C,I,3,1,1\n") 1 ≡ NoReport (BufferShort 203)
 unfolding opened
-v00267 = refl
+v00281 = refl
 
--- 00289-name-S-equals-word-buf289
-v00289 : studyOf (bytes "source,va_re,va_im,vb_re,vb_im,vc_re,vc_im,tol,sweeps\nA,720000,0,-360000,-623538,-360000,623538,1,20\n\nfrom,to,phases,kind,p1,p2,p3,p4,p5,p6,p7,p8,p9,p10,p11,p12\nA,L,A,L,0,0,0,0,0,0,0,0,0,0,0,0\nL,P,A,L,0,0,0,0,0,0,0,0,0,0,0,0\n\nnode,phase,kind,vn,p,q\nP,A,P,5,0,0\n") 289 ≡ NoReport (BufferShort 290)
+-- 01042-tiny-buf
+v01042 : studyOf (bytes "source,va_re,va_im,vb_re,vb_im,vc_re,vc_im,tol,sweeps\nS,3108,718,3428,-946,69,-3528,7,50\n\nfrom,to,phases,kind,p1,p2,p3,p4,p5,p6,p7,p8,p9,p10,p11,p12\nS,N0,AC,L,-1667,1811,0,0,1667,-5002,0,0,0,0,-1667,1667\nN0,N1,AC,L,3434,3434,0,0,2064,3434,0,0,0,0,3434,5076\nN0,N2,AC,R,13,0,15,0,0,0,0,0,0,0,0,0\n\nnode,phase,kind,vn,p,q\nS,B,Z,10683,2,2\nN2,C,Z,18798,3,2\nS,B,I,967,-2,-1\nN1,C,Z,1103,2,3\nN0,A,I,65,-1,1\nN2,C,Z,3204,3,-1\n") 403 ≡ NoReport (BufferShort 404)
 unfolding opened
-v00289 = refl
-
--- 01120-hard-buf
-v01120 : studyOf (bytes "source,va_re,va_im,vb_re,vb_im,vc_re,vc_im,tol,sweeps\nS,1000000,0,-500000,-866000,-500000,866000,1,100\n\nfrom,to,phases,kind,p1,p2,p3,p4,p5,p6,p7,p8,p9,p10,p11,p12\nS,N0,A,L,16569205,48707893,0,0,0,0,0,0,0,0,0,0\n\nnode,phase,kind,vn,p,q\nN0,A,P,1000000,498528,192797\n") 0 ≡ NoReport (BufferShort 348)
-unfolding opened
-v01120 = refl
+v01042 = refl
 
 -- S-1, 00281-faults
 v1-00281 : studyOf (bytes "source,va_re,va_im,vb_re,vb_im,vc_re,vc_im,tol,sweeps\nS,0,0,0,-1924999,0,0,1,5\n\nfrom,to,phases,kind,p1,p2,p3,p4,p5,p6,p7,p8,p9,p10,p11,p12\nS,N,ABC,Y,5,4,0,0,0,0,0,0,0,-999999999999999999,0,0\n\nnode,phase,kind,vn,p,q\nN,A,Z,2000000,73,-34\nN,AB,Z,3464102,99,79\nN,A,Z,0,41,58\n") 1000000 ≡ NoReport (OutOfLimit 10)
@@ -131,17 +131,32 @@ v1-00102 : studyOf (bytes "source,va_re,va_im,vb_re,vb_im,vc_re,vc_im,tol,sweeps
 unfolding opened
 v1-00102 = refl
 
--- S-1, 00130-30-equal-phases-P
-v1-00130 : studyOf (bytes "source,va_re,va_im,vb_re,vb_im,vc_re,vc_im,tol,sweeps\nS,500000,7,500000,7,0,0,1,20\n\nfrom,to,phases,kind,p1,p2,p3,p4,p5,p6,p7,p8,p9,p10,p11,p12\n\nnode,phase,kind,vn,p,q\nS,AB,P,720000,1,0\n") 1000000 ≡ NoReport (ZeroVoltage 1)
+-- S-1, 00137-30-equal-phases-I
+v1-00137 : studyOf (bytes "source,va_re,va_im,vb_re,vb_im,vc_re,vc_im,tol,sweeps\nS,500000,7,500000,7,0,0,1,20\n\nfrom,to,phases,kind,p1,p2,p3,p4,p5,p6,p7,p8,p9,p10,p11,p12\n\nnode,phase,kind,vn,p,q\nS,AB,I,720000,1,0\n") 1000000 ≡ NoReport (ZeroVoltage 1)
 unfolding opened
-v1-00130 = refl
+v1-00137 = refl
 
--- S-1, 00173-32-two-rows-1000001
-v1-00173 : studyOf (bytes "source,va_re,va_im,vb_re,vb_im,vc_re,vc_im,tol,sweeps\nS,50000,0,-50000,0,-50000,0,1,20\n\nfrom,to,phases,kind,p1,p2,p3,p4,p5,p6,p7,p8,p9,p10,p11,p12\nS,N,ABC,L,0,0,0,0,0,0,0,0,0,0,0,0\n\nnode,phase,kind,vn,p,q\nN,AB,P,100000,1000001,0\nN,CA,P,100000,1000001,0\n") 1000000 ≡ NoReport (CurrentBeyond 1)
+-- S-1, 00174-32-cancel-1000001
+v1-00174 : studyOf (bytes "source,va_re,va_im,vb_re,vb_im,vc_re,vc_im,tol,sweeps\nS,50000,0,-50000,0,-50000,0,1,20\n\nfrom,to,phases,kind,p1,p2,p3,p4,p5,p6,p7,p8,p9,p10,p11,p12\nS,N,ABC,L,0,0,0,0,0,0,0,0,0,0,0,0\n\nnode,phase,kind,vn,p,q\nN,AB,P,100000,2000000,0\nN,A,P,50000,-999999,0\nN,B,P,50000,9,0\n") 1000000 ≡ NoReport (CurrentBeyond 1)
 unfolding opened
-v1-00173 = refl
+v1-00174 = refl
 
--- S-1, 00340-rand
-v1-00340 : studyOf (bytes "source,va_re,va_im,vb_re,vb_im,vc_re,vc_im,tol,sweeps\nS,1000000,0,-500000,-866000,-500000,866000,0,10\n\nfrom,to,phases,kind,p1,p2,p3,p4,p5,p6,p7,p8,p9,p10,p11,p12\nS,N0,A,L,49555427,37772899,0,0,0,0,0,0,0,0,0,0\n\nnode,phase,kind,vn,p,q\nN0,A,P,1000000,361053,5704\n") 1000000 ≡ NoReport (NotSettled 10)
+-- S-1, 00504-rand
+v1-00504 : studyOf (bytes "source,va_re,va_im,vb_re,vb_im,vc_re,vc_im,tol,sweeps\nS,240000,0,-120000,-207840,-120000,207840,0,100\n\nfrom,to,phases,kind,p1,p2,p3,p4,p5,p6,p7,p8,p9,p10,p11,p12\nN0,N1,A,L,97883,52138,0,0,0,0,0,0,0,0,0,0\nS,N0,A,L,118399,141285,0,0,0,0,0,0,0,0,0,0\nN4,N5,A,L,53502,78779,0,0,0,0,0,0,0,0,0,0\nN3,N4,A,R,1,0,0,0,0,0,0,0,0,0,0,0\nN2,N3,A,L,131726,63391,0,0,0,0,0,0,0,0,0,0\nN1,N2,A,L,99374,244478,0,0,0,0,0,0,0,0,0,0\n\nnode,phase,kind,vn,p,q\nN5,A,P,240000,764210,312469\n") 1000000 ≡ NoReport (NotSettled 100)
 unfolding opened
-v1-00340 = refl
+v1-00504 = refl
+
+-- S-3, 00476-faults
+v3-00476 : studyOf (bytes "source,va_re,va_im,vb_re,vb_im,vc_re,vc_im,tol,sweeps\nZ8,12888,125,-5554,-10638,-6000,10392,1000,50\n\nfrom,to,phases,kind,p1,p2,p3,p4,p5,p6,p7,p8,p9,p10,p11,p12\nZ8,OU,B,R,0,0,16,0,0,0,0,0,0,0,0,0\n\nnode,phase,kind,vn,p,q\nOU,B,I,12445,25,6\nZ8,CA,Z,23759,0,-21\nZ8,AB,I,20785,698,193\n") 1000000 ≡ NoReport (NotZero 5)
+unfolding opened
+v3-00476 = refl
+
+-- S-3, 00213-flips-840000-1
+v3-00213 : studyOf (bytes "source,va_re,va_im,vb_re,vb_im,vc_re,vc_im,tol,sweeps\nS,720000,0,-360000,-623538,-360000,623538,1,100\n\nfrom,to,phases,kind,p1,p2,p3,p4,p5,p6,p7,p8,p9,p10,p11,p12\nS,N1,A,L,30000000,0,0,0,0,0,0,0,0,0,0,0\n\nnode,phase,kind,vn,p,q\nN1,A,P,840000,300000,0\n") 1000000 ≡ NoReport (NotSettled 100)
+unfolding opened
+v3-00213 = refl
+
+-- S-3, 00430-rand
+v3-00430 : studyOf (bytes "source,va_re,va_im,vb_re,vb_im,vc_re,vc_im,tol,sweeps\nS,1000000,0,-500000,-866000,-500000,866000,1,50\n\nfrom,to,phases,kind,p1,p2,p3,p4,p5,p6,p7,p8,p9,p10,p11,p12\nS,N0,ABC,L,41289314,96417054,10322328,24104263,0,0,41289314,96417054,0,0,41289314,96417054\n\nnode,phase,kind,vn,p,q\nN0,AB,P,1732051,242843,-11638\nN0,B,P,1000000,223096,96623\nN0,CA,Z,1732051,0,-225952\nN0,C,P,1432875,222112,98864\nN0,AB,Z,1732051,0,-125256\n") 1000000 ≡ NoReport (NotSettled 50)
+unfolding opened
+v3-00430 = refl

@@ -5,50 +5,50 @@ use Rattle.text.specs.Text.{bytes}
 use Rattle.ladder.specs.Study.{fitted}
 use Rattle.trials.specs.Opened.{opened}
 
--- 00015-source-loads-only
-v00015 : fitted (bytes "source,va_re,va_im,vb_re,vb_im,vc_re,vc_im,tol,sweeps\nS,720000,0,-360000,-623538,-360000,623538,1,20\n\nfrom,to,phases,kind,p1,p2,p3,p4,p5,p6,p7,p8,p9,p10,p11,p12\n\nnode,phase,kind,vn,p,q\nS,A,P,720000,72000,5\nS,C,I,720000,-7,9\n") 1000000 ≡ good (record { text = bytes "node,va_re,va_im,vb_re,vb_im,vc_re,vc_im\nS,720000,0,-360000,-623538,-360000,623538\n\nfrom,to,ia_re,ia_im,ib_re,ib_im,ic_re,ic_im,loss_p,loss_q\n\nsweeps,source_p,source_q,drawn_p,drawn_q,lost_p,lost_q\n1,7199280000,1967076,7199280000,1967076,0,0\n"; sweeps = 1 })
+-- 00008-source-alone
+v00008 : fitted (bytes "source,va_re,va_im,vb_re,vb_im,vc_re,vc_im,tol,sweeps\nS,720000,0,-360000,-623538,-360000,623538,1,20\n\nfrom,to,phases,kind,p1,p2,p3,p4,p5,p6,p7,p8,p9,p10,p11,p12\n\nnode,phase,kind,vn,p,q\n") 1000000 ≡ good (record { text = bytes "node,va_re,va_im,vb_re,vb_im,vc_re,vc_im\nS,720000,0,-360000,-623538,-360000,623538\n\nfrom,to,ia_re,ia_im,ib_re,ib_im,ic_re,ic_im,loss_p,loss_q\n\nsweeps,source_p,source_q,drawn_p,drawn_q,lost_p,lost_q\n1,0,0,0,0,0,0\n"; sweeps = 1 })
 unfolding opened
-v00015 = refl
+v00008 = refl
 
--- 00044-30-not-Z-buf243
-v00044 : fitted (bytes "source,va_re,va_im,vb_re,vb_im,vc_re,vc_im,tol,sweeps\nS,0,0,-360000,-623538,-360000,623538,1,20\n\nfrom,to,phases,kind,p1,p2,p3,p4,p5,p6,p7,p8,p9,p10,p11,p12\nS,N1,A,L,0,0,0,0,0,0,0,0,0,0,0,0\n\nnode,phase,kind,vn,p,q\nN1,A,Z,720000,1,0\n") 243 ≡ good (record { text = bytes "node,va_re,va_im,vb_re,vb_im,vc_re,vc_im\nS,0,0,-360000,-623538,-360000,623538\nN1,0,0,0,0,0,0\n\nfrom,to,ia_re,ia_im,ib_re,ib_im,ic_re,ic_im,loss_p,loss_q\nS,N1,0,0,0,0,0,0,0,0\n\nsweeps,source_p,source_q,drawn_p,drawn_q,lost_p,lost_q\n1,0,0,0,0,0,0\n"; sweeps = 1 })
+-- 00034-branch-no-load-buf276
+v00034 : fitted (bytes "source,va_re,va_im,vb_re,vb_im,vc_re,vc_im,tol,sweeps\nS,720000,0,-360000,-623538,-360000,623538,1,20\n\nfrom,to,phases,kind,p1,p2,p3,p4,p5,p6,p7,p8,p9,p10,p11,p12\nS,N1,ABC,L,5,5,0,0,0,0,0,0,0,0,0,0\n\nnode,phase,kind,vn,p,q\n") 276 ≡ good (record { text = bytes "node,va_re,va_im,vb_re,vb_im,vc_re,vc_im\nS,720000,0,-360000,-623538,-360000,623538\nN1,720000,0,-360000,-623538,-360000,623538\n\nfrom,to,ia_re,ia_im,ib_re,ib_im,ic_re,ic_im,loss_p,loss_q\nS,N1,0,0,0,0,0,0,0,0\n\nsweeps,source_p,source_q,drawn_p,drawn_q,lost_p,lost_q\n1,0,0,0,0,0,0\n"; sweeps = 1 })
 unfolding opened
-v00044 = refl
+v00034 = refl
 
--- 00072-31-edge-2000000-buf282
-v00072 : fitted (bytes "source,va_re,va_im,vb_re,vb_im,vc_re,vc_im,tol,sweeps\nS,100000,0,-360000,-623538,-360000,623538,1,20\n\nfrom,to,phases,kind,p1,p2,p3,p4,p5,p6,p7,p8,p9,p10,p11,p12\nS,N1,A,L,0,0,0,0,0,0,0,0,0,0,0,0\n\nnode,phase,kind,vn,p,q\nN1,A,P,100000,2000000,0\n") 282 ≡ good (record { text = bytes "node,va_re,va_im,vb_re,vb_im,vc_re,vc_im\nS,100000,0,-360000,-623538,-360000,623538\nN1,100000,0,0,0,0,0\n\nfrom,to,ia_re,ia_im,ib_re,ib_im,ic_re,ic_im,loss_p,loss_q\nS,N1,2000000,0,0,0,0,0,0,0\n\nsweeps,source_p,source_q,drawn_p,drawn_q,lost_p,lost_q\n1,200000000000,0,200000000000,0,0,0\n"; sweeps = 1 })
+-- 00057-31-edge-1999999-buf282
+v00057 : fitted (bytes "source,va_re,va_im,vb_re,vb_im,vc_re,vc_im,tol,sweeps\nS,100000,0,-360000,-623538,-360000,623538,1,20\n\nfrom,to,phases,kind,p1,p2,p3,p4,p5,p6,p7,p8,p9,p10,p11,p12\nS,N1,A,L,0,0,0,0,0,0,0,0,0,0,0,0\n\nnode,phase,kind,vn,p,q\nN1,A,P,100000,1999999,0\n") 282 ≡ good (record { text = bytes "node,va_re,va_im,vb_re,vb_im,vc_re,vc_im\nS,100000,0,-360000,-623538,-360000,623538\nN1,100000,0,0,0,0,0\n\nfrom,to,ia_re,ia_im,ib_re,ib_im,ic_re,ic_im,loss_p,loss_q\nS,N1,1999999,0,0,0,0,0,0,0\n\nsweeps,source_p,source_q,drawn_p,drawn_q,lost_p,lost_q\n1,199999900000,0,199999900000,0,0,0\n"; sweeps = 1 })
 unfolding opened
-v00072 = refl
+v00057 = refl
 
--- 00104-32-cancelled-sum-ok
-v00104 : fitted (bytes "source,va_re,va_im,vb_re,vb_im,vc_re,vc_im,tol,sweeps\nS,100000,0,-360000,-623538,-360000,623538,1,20\n\nfrom,to,phases,kind,p1,p2,p3,p4,p5,p6,p7,p8,p9,p10,p11,p12\nS,N1,A,L,0,0,0,0,0,0,0,0,0,0,0,0\n\nnode,phase,kind,vn,p,q\nN1,A,P,100000,1500000,0\nN1,A,P,100000,1500000,0\nN1,A,P,100000,-1500000,0\n") 1000000 ≡ good (record { text = bytes "node,va_re,va_im,vb_re,vb_im,vc_re,vc_im\nS,100000,0,-360000,-623538,-360000,623538\nN1,100000,0,0,0,0,0\n\nfrom,to,ia_re,ia_im,ib_re,ib_im,ic_re,ic_im,loss_p,loss_q\nS,N1,1500000,0,0,0,0,0,0,0\n\nsweeps,source_p,source_q,drawn_p,drawn_q,lost_p,lost_q\n1,150000000000,0,150000000000,0,0,0\n"; sweeps = 1 })
+-- 00082-31-edge-q-ok
+v00082 : fitted (bytes "source,va_re,va_im,vb_re,vb_im,vc_re,vc_im,tol,sweeps\nS,100000,0,-360000,-623538,-360000,623538,1,20\n\nfrom,to,phases,kind,p1,p2,p3,p4,p5,p6,p7,p8,p9,p10,p11,p12\nS,N1,A,L,0,0,0,0,0,0,0,0,0,0,0,0\n\nnode,phase,kind,vn,p,q\nN1,A,Z,100000,0,-2000000\n") 1000000 ≡ good (record { text = bytes "node,va_re,va_im,vb_re,vb_im,vc_re,vc_im\nS,100000,0,-360000,-623538,-360000,623538\nN1,100000,0,0,0,0,0\n\nfrom,to,ia_re,ia_im,ib_re,ib_im,ic_re,ic_im,loss_p,loss_q\nS,N1,0,2000000,0,0,0,0,0,0\n\nsweeps,source_p,source_q,drawn_p,drawn_q,lost_p,lost_q\n1,0,-200000000000,0,-200000000000,0,0\n"; sweeps = 1 })
 unfolding opened
-v00104 = refl
+v00082 = refl
 
--- 00130-32-J-reg-1800000-buf265
-v00130 : fitted (bytes "source,va_re,va_im,vb_re,vb_im,vc_re,vc_im,tol,sweeps\nS,90000,0,90000,0,90000,0,1,20\n\nfrom,to,phases,kind,p1,p2,p3,p4,p5,p6,p7,p8,p9,p10,p11,p12\nS,N1,A,R,16,0,0,0,0,0,0,0,0,0,0,0\n\nnode,phase,kind,vn,p,q\nN1,A,P,100000,1800000,0\n") 265 ≡ good (record { text = bytes "node,va_re,va_im,vb_re,vb_im,vc_re,vc_im\nS,90000,0,90000,0,90000,0\nN1,100000,0,0,0,0,0\n\nfrom,to,ia_re,ia_im,ib_re,ib_im,ic_re,ic_im,loss_p,loss_q\nS,N1,1800000,0,0,0,0,0,0,0\n\nsweeps,source_p,source_q,drawn_p,drawn_q,lost_p,lost_q\n1,180000000000,0,180000000000,0,0,0\n"; sweeps = 1 })
+-- 00116-32-source-sum-free-buf221
+v00116 : fitted (bytes "source,va_re,va_im,vb_re,vb_im,vc_re,vc_im,tol,sweeps\nS,100000,0,100000,0,100000,0,1,20\n\nfrom,to,phases,kind,p1,p2,p3,p4,p5,p6,p7,p8,p9,p10,p11,p12\n\nnode,phase,kind,vn,p,q\nS,A,P,100000,2000000,0\nS,A,P,100000,2000000,0\nS,A,P,100000,2000000,0\n") 221 ≡ good (record { text = bytes "node,va_re,va_im,vb_re,vb_im,vc_re,vc_im\nS,100000,0,100000,0,100000,0\n\nfrom,to,ia_re,ia_im,ib_re,ib_im,ic_re,ic_im,loss_p,loss_q\n\nsweeps,source_p,source_q,drawn_p,drawn_q,lost_p,lost_q\n1,600000000000,0,600000000000,0,0,0\n"; sweeps = 1 })
 unfolding opened
-v00130 = refl
+v00116 = refl
 
--- 00154-32-J-D-buf282
-v00154 : fitted (bytes "source,va_re,va_im,vb_re,vb_im,vc_re,vc_im,tol,sweeps\nS,100000,0,-100000,0,0,0,1,20\n\nfrom,to,phases,kind,p1,p2,p3,p4,p5,p6,p7,p8,p9,p10,p11,p12\nS,N1,ABC,D,1,1,0,0,0,0,0,0,0,0,0,0\n\nnode,phase,kind,vn,p,q\nN1,A,I,100000,1100000,0\nN1,B,I,200000,1100000,0\n") 282 ≡ good (record { text = bytes "node,va_re,va_im,vb_re,vb_im,vc_re,vc_im\nS,100000,0,-100000,0,0,0\nN1,100000,0,-200000,0,100000,0\n\nfrom,to,ia_re,ia_im,ib_re,ib_im,ic_re,ic_im,loss_p,loss_q\nS,N1,1100000,0,-550000,0,0,0,0,0\n\nsweeps,source_p,source_q,drawn_p,drawn_q,lost_p,lost_q\n1,220000000000,0,220000000000,0,0,0\n"; sweeps = 1 })
+-- 00140-32-J-Y-ok-buf279
+v00140 : fitted (bytes "source,va_re,va_im,vb_re,vb_im,vc_re,vc_im,tol,sweeps\nS,100000,0,100000,0,100000,0,1,20\n\nfrom,to,phases,kind,p1,p2,p3,p4,p5,p6,p7,p8,p9,p10,p11,p12\nS,N1,ABC,Y,1,2,0,0,0,0,0,0,0,0,0,0\n\nnode,phase,kind,vn,p,q\nN1,A,P,200000,2000000,0\n") 279 ≡ good (record { text = bytes "node,va_re,va_im,vb_re,vb_im,vc_re,vc_im\nS,100000,0,100000,0,100000,0\nN1,200000,0,200000,0,200000,0\n\nfrom,to,ia_re,ia_im,ib_re,ib_im,ic_re,ic_im,loss_p,loss_q\nS,N1,1000000,0,0,0,0,0,0,0\n\nsweeps,source_p,source_q,drawn_p,drawn_q,lost_p,lost_q\n1,200000000000,0,200000000000,0,0,0\n"; sweeps = 1 })
 unfolding opened
-v00154 = refl
+v00140 = refl
 
--- 00183-33-edge-not
-v00183 : fitted (bytes "source,va_re,va_im,vb_re,vb_im,vc_re,vc_im,tol,sweeps\nS,1999999,0,-360000,-623538,-360000,623538,0,20\n\nfrom,to,phases,kind,p1,p2,p3,p4,p5,p6,p7,p8,p9,p10,p11,p12\nS,N1,A,L,-1000000,0,0,0,0,0,0,0,0,0,0,0\n\nnode,phase,kind,vn,p,q\nN1,A,P,720000,200,0\n") 1000000 ≡ good (record { text = bytes "node,va_re,va_im,vb_re,vb_im,vc_re,vc_im\nS,1999999,0,-360000,-623538,-360000,623538\nN1,2000000,0,0,0,0,0\n\nfrom,to,ia_re,ia_im,ib_re,ib_im,ic_re,ic_im,loss_p,loss_q\nS,N1,10,0,0,0,0,0,-10,0\n\nsweeps,source_p,source_q,drawn_p,drawn_q,lost_p,lost_q\n2,19999990,0,20000000,0,-10,0\n"; sweeps = 2 })
+-- 00162-33-V0-reg-ok
+v00162 : fitted (bytes "source,va_re,va_im,vb_re,vb_im,vc_re,vc_im,tol,sweeps\nS,1800000,0,1800000,0,1800000,0,1,20\n\nfrom,to,phases,kind,p1,p2,p3,p4,p5,p6,p7,p8,p9,p10,p11,p12\nS,N,A,R,16,0,0,0,0,0,0,0,0,0,0,0\n\nnode,phase,kind,vn,p,q\n") 1000000 ≡ good (record { text = bytes "node,va_re,va_im,vb_re,vb_im,vc_re,vc_im\nS,1800000,0,1800000,0,1800000,0\nN,2000000,0,0,0,0,0\n\nfrom,to,ia_re,ia_im,ib_re,ib_im,ic_re,ic_im,loss_p,loss_q\nS,N,0,0,0,0,0,0,0,0\n\nsweeps,source_p,source_q,drawn_p,drawn_q,lost_p,lost_q\n1,0,0,0,0,0,0\n"; sweeps = 1 })
 unfolding opened
-v00183 = refl
+v00162 = refl
 
--- 00211-34-exact-limit-buf289
-v00211 : fitted (bytes "source,va_re,va_im,vb_re,vb_im,vc_re,vc_im,tol,sweeps\nS,720000,0,-360000,-623538,-360000,623538,1,2\n\nfrom,to,phases,kind,p1,p2,p3,p4,p5,p6,p7,p8,p9,p10,p11,p12\nS,N1,A,L,1000000,0,0,0,0,0,0,0,0,0,0,0\n\nnode,phase,kind,vn,p,q\nN1,A,P,720000,72000,0\n") 289 ≡ good (record { text = bytes "node,va_re,va_im,vb_re,vb_im,vc_re,vc_im\nS,720000,0,-360000,-623538,-360000,623538\nN1,719000,0,0,0,0,0\n\nfrom,to,ia_re,ia_im,ib_re,ib_im,ic_re,ic_im,loss_p,loss_q\nS,N1,10014,0,0,0,0,0,10024014,0\n\nsweeps,source_p,source_q,drawn_p,drawn_q,lost_p,lost_q\n2,7210080000,0,7200066000,0,10024014,0\n"; sweeps = 2 })
+-- 00195-33-masked-transformer-buf290
+v00195 : fitted (bytes "source,va_re,va_im,vb_re,vb_im,vc_re,vc_im,tol,sweeps\nS,1000000,0,0,0,0,0,10,20\n\nfrom,to,phases,kind,p1,p2,p3,p4,p5,p6,p7,p8,p9,p10,p11,p12\nS,L,ABC,L,-500000,0,0,0,0,0,0,0,0,0,0,0\nL,N,ABC,Y,1,2,5000000,0,0,0,0,0,0,0,0,0\n\nnode,phase,kind,vn,p,q\nN,A,Z,2000000,200,0\n") 290 ≡ good (record { text = bytes "node,va_re,va_im,vb_re,vb_im,vc_re,vc_im\nS,1000000,0,0,0,0,0\nL,1000000,0,0,0,0,0\nN,2000000,0,0,0,0,0\n\nfrom,to,ia_re,ia_im,ib_re,ib_im,ic_re,ic_im,loss_p,loss_q\nS,L,20,0,0,0,0,0,-20,0\nL,N,10,0,0,0,0,0,50,0\n\nsweeps,source_p,source_q,drawn_p,drawn_q,lost_p,lost_q\n1,20000000,0,20000000,0,30,0\n"; sweeps = 1 })
 unfolding opened
-v00211 = refl
+v00195 = refl
 
--- 00235-34-tol0-limit100-buf301
-v00235 : fitted (bytes "source,va_re,va_im,vb_re,vb_im,vc_re,vc_im,tol,sweeps\nS,720000,0,-360000,-623538,-360000,623538,0,100\n\nfrom,to,phases,kind,p1,p2,p3,p4,p5,p6,p7,p8,p9,p10,p11,p12\nS,N1,A,L,17000000,0,0,0,0,0,0,0,0,0,0,0\n\nnode,phase,kind,vn,p,q\nN1,A,P,720000,720000,0\n") 301 ≡ good (record { text = bytes "node,va_re,va_im,vb_re,vb_im,vc_re,vc_im\nS,720000,0,-360000,-623538,-360000,623538\nN1,444855,0,0,0,0,0\n\nfrom,to,ia_re,ia_im,ib_re,ib_im,ic_re,ic_im,loss_p,loss_q\nS,N1,161850,0,0,0,0,0,44532218250,0\n\nsweeps,source_p,source_q,drawn_p,drawn_q,lost_p,lost_q\n23,116532000000,0,71999781750,0,44532218250,0\n"; sweeps = 23 })
+-- 00219-tol-edge-1000-buf290
+v00219 : fitted (bytes "source,va_re,va_im,vb_re,vb_im,vc_re,vc_im,tol,sweeps\nS,720000,0,-360000,-623538,-360000,623538,1000,1\n\nfrom,to,phases,kind,p1,p2,p3,p4,p5,p6,p7,p8,p9,p10,p11,p12\nS,N1,A,L,1000000,0,0,0,0,0,0,0,0,0,0,0\n\nnode,phase,kind,vn,p,q\nN1,A,P,720000,72000,0\n") 290 ≡ good (record { text = bytes "node,va_re,va_im,vb_re,vb_im,vc_re,vc_im\nS,720000,0,-360000,-623538,-360000,623538\nN1,720000,0,0,0,0,0\n\nfrom,to,ia_re,ia_im,ib_re,ib_im,ic_re,ic_im,loss_p,loss_q\nS,N1,10000,0,0,0,0,0,10000000,0\n\nsweeps,source_p,source_q,drawn_p,drawn_q,lost_p,lost_q\n1,7200000000,0,7200000000,0,10000000,0\n"; sweeps = 1 })
 unfolding opened
-v00235 = refl
+v00219 = refl
 
 -- 00271-tie-D
 v00271 : fitted (bytes "source,va_re,va_im,vb_re,vb_im,vc_re,vc_im,tol,sweeps\nS,1,-1,4,-3,5,-5,0,20\n\nfrom,to,phases,kind,p1,p2,p3,p4,p5,p6,p7,p8,p9,p10,p11,p12\nS,N,ABC,D,2,1,0,0,0,0,0,0,0,0,0,0\n\nnode,phase,kind,vn,p,q\n") 1000000 ≡ good (record { text = bytes "node,va_re,va_im,vb_re,vb_im,vc_re,vc_im\nS,1,-1,4,-3,5,-5\nN,-2,2,2,-1,1,-1\n\nfrom,to,ia_re,ia_im,ib_re,ib_im,ic_re,ic_im,loss_p,loss_q\nS,N,0,0,0,0,0,0,0,0\n\nsweeps,source_p,source_q,drawn_p,drawn_q,lost_p,lost_q\n1,0,0,0,0,0,0\n"; sweeps = 1 })
@@ -60,15 +60,15 @@ v00297 : fitted (bytes "source,va_re,va_im,vb_re,vb_im,vc_re,vc_im,tol,sweeps\n0
 unfolding opened
 v00297 = refl
 
--- 00952-fault-none
-v00952 : fitted (bytes "source,va_re,va_im,vb_re,vb_im,vc_re,vc_im,tol,sweeps\nR9E,720000,0,-370073,-633816,-360000,623538,1,1\n\nfrom,to,phases,kind,p1,p2,p3,p4,p5,p6,p7,p8,p9,p10,p11,p12\n\nnode,phase,kind,vn,p,q\n") 1000000 ≡ good (record { text = bytes "node,va_re,va_im,vb_re,vb_im,vc_re,vc_im\nR9E,720000,0,-370073,-633816,-360000,623538\n\nfrom,to,ia_re,ia_im,ib_re,ib_im,ic_re,ic_im,loss_p,loss_q\n\nsweeps,source_p,source_q,drawn_p,drawn_q,lost_p,lost_q\n1,0,0,0,0,0,0\n"; sweeps = 1 })
+-- 00947-good
+v00947 : fitted (bytes "source,va_re,va_im,vb_re,vb_im,vc_re,vc_im,tol,sweeps\nME1,1507780,967226,-39296,-1822449,-1473140,944376,1000,3\n\nfrom,to,phases,kind,p1,p2,p3,p4,p5,p6,p7,p8,p9,p10,p11,p12\nME1,HJVM,ABC,L,45466372,79751379,13802234,-14736839,25415027,20709843,89849115,83333656,23800622,25030043,66070036,20926011\n\nnode,phase,kind,vn,p,q\nHJVM,C,Z,1822873,561,637\nHJVM,C,P,1822873,188,60\nME1,B,Z,1490439,23,25\nME1,A,Z,1822873,0,-272179\nHJVM,B,P,1822873,3541,2714\nME1,C,Z,1822873,18,9\nHJVM,C,Z,1822873,0,-34096\nHJVM,C,I,1822873,645,129\nME1,A,I,2000000,113657,-11801\nHJVM,C,P,1822873,84228,86124\nME1,B,P,1822873,1163,-146\nME1,B,I,1822873,697,301\n") 1000000 ≡ good (record { text = bytes "node,va_re,va_im,vb_re,vb_im,vc_re,vc_im\nME1,1507780,967226,-39296,-1822449,-1473140,944376\nHJVM,1525833,958416,-20006,-1826376,-1445633,914145\n\nfrom,to,ia_re,ia_im,ib_re,ib_im,ic_re,ic_im,loss_p,loss_q\nME1,HJVM,0,0,-151,-192,-2449,5482,235468768,72517224\n\nsweeps,source_p,source_q,drawn_p,drawn_q,lost_p,lost_q\n3,19512555310,-21292053217,19277305519,-21364514215,235468768,72517224\n"; sweeps = 3 })
 unfolding opened
-v00952 = refl
+v00947 = refl
 
--- 01023-hard
-v01023 : fitted (bytes "source,va_re,va_im,vb_re,vb_im,vc_re,vc_im,tol,sweeps\nS,720000,0,-360000,-623520,-360000,623520,0,10\n\nfrom,to,phases,kind,p1,p2,p3,p4,p5,p6,p7,p8,p9,p10,p11,p12\nS,N0,ABC,L,13900094,18760874,3475023,4690218,0,0,13900094,18760874,0,0,13900094,18760874\n\nnode,phase,kind,vn,p,q\nN0,A,Z,720000,327610,-59844\nN0,A,Z,720000,0,-75275\nN0,B,P,720000,324109,76572\nN0,B,Z,720000,0,-211034\nN0,C,P,720000,257551,211134\nN0,C,Z,720000,0,-250627\n") 1000000 ≡ good (record { text = bytes "node,va_re,va_im,vb_re,vb_im,vc_re,vc_im\nS,720000,0,-360000,-623520,-360000,623520\nN0,665016,-76939,-438154,-556491,-271256,604453\n\nfrom,to,ia_re,ia_im,ib_re,ib_im,ic_re,ic_im,loss_p,loss_q\nS,N0,44032,12471,-14148,-47102,-16065,35400,7532683083,10166834829\n\nsweeps,source_p,source_q,drawn_p,drawn_q,lost_p,lost_q\n10,94021367040,-14387127840,86488683957,-24553962669,7532683083,10166834829\n"; sweeps = 10 })
+-- 01021-tiny
+v01021 : fitted (bytes "source,va_re,va_im,vb_re,vb_im,vc_re,vc_im,tol,sweeps\nS,23,-6,33,-26,0,-1,2,5\n\nfrom,to,phases,kind,p1,p2,p3,p4,p5,p6,p7,p8,p9,p10,p11,p12\nS,N1,C,L,0,0,0,0,0,0,0,0,0,0,15000000,-4999990\nS,N0,BC,R,0,2,3,0,0,0,0,0,0,0,0,0\n\nnode,phase,kind,vn,p,q\nN0,C,P,2798,-2,-2\n") 1000000 ≡ good (record { text = bytes "node,va_re,va_im,vb_re,vb_im,vc_re,vc_im\nS,23,-6,33,-26,0,-1\nN1,0,0,0,0,0,-1\nN0,0,0,33,-26,0,-1\n\nfrom,to,ia_re,ia_im,ib_re,ib_im,ic_re,ic_im,loss_p,loss_q\nS,N1,0,0,0,0,0,0,0,0\nS,N0,0,0,0,0,0,0,0,0\n\nsweeps,source_p,source_q,drawn_p,drawn_q,lost_p,lost_q\n1,0,0,0,0,0,0\n"; sweeps = 1 })
 unfolding opened
-v01023 = refl
+v01021 = refl
 
 -- 01084-good
 v01084 : fitted (bytes "source,va_re,va_im,vb_re,vb_im,vc_re,vc_im,tol,sweeps\nP7,51,0,-28,-45,-28,45,0,3\n\nfrom,to,phases,kind,p1,p2,p3,p4,p5,p6,p7,p8,p9,p10,p11,p12\nP7,E,ABC,L,53101,30576,0,0,0,0,63829,34692,22153,13816,57176,49158\nE,BO,ABC,Y,1085,1085,71387059,62757892,98632026,51090490,66196244,45293078,0,0,0,0\nBO,W2P7,ABC,R,7,8,16,0,0,0,0,0,0,0,0,0\nE,MO5I,ABC,Y,1,240,54394954,90385714,44679743,73802084,33017313,83531038,0,0,0,0\nW2P7,C2IVYJMQ,ABC,Y,1,240,0,1,1,0,1,0,0,0,0,0\nW2P7,7A0L0RGQ,ABC,R,7,16,-2,0,0,0,0,0,0,0,0,0\nP7,6D7ZYL58,C,R,0,0,-16,0,0,0,0,0,0,0,0,0\n7A0L0RGQ,Z,ABC,L,30524122,50592020,9452619,30309111,22917913,23162081,93084490,-58131149,0,0,22038571,64402313\nC2IVYJMQ,LID,BC,L,0,0,0,0,0,0,0,-1,0,0,1,0\n7A0L0RGQ,77CY,ABC,Y,1,240,-73781414,-91460316,-40831381,-70245772,-48375015,-36543321,0,0,0,0\nZ,V5ET,ABC,L,98001919,95408552,37366803,24318442,29420230,39102883,46996330,97894861,20299442,39363895,73203047,99234397\nP7,0OAJ,ABC,L,80045984,94814915,14393115,-16028132,29100786,12387320,94934634,58477404,31338728,30269964,55379976,-71805898\nE,LPNJNFTC,AC,R,7,0,-1,0,0,0,0,0,0,0,0,0\n0OAJ,EV47,ABC,L,9239032,11862327,1836398,2041711,2110251,-4995482,12970863,8645485,3456299,2678728,11488353,-12633118\n7A0L0RGQ,C9,B,R,0,3,0,0,0,0,0,0,0,0,0,0\nLPNJNFTC,Q,AC,R,4,0,-4,0,0,0,0,0,0,0,0,0\nE,JO,AB,R,-3,8,0,0,0,0,0,0,0,0,0,0\nC9,L6,B,R,0,-11,0,0,0,0,0,0,0,0,0,0\nLID,D,BC,R,0,4,-13,0,0,0,0,0,0,0,0,0\nV5ET,IM,ABC,L,43741256,-51132236,28996526,-8078089,0,0,72242586,-40664975,21007955,22928228,91875584,94670957\n\nnode,phase,kind,vn,p,q\nQ,A,Z,54,1,0\n7A0L0RGQ,B,Z,70,0,0\n") 1000000 ≡ good (record { text = bytes "node,va_re,va_im,vb_re,vb_im,vc_re,vc_im\nP7,51,0,-28,-45,-28,45\nE,42,-4,-28,-45,-28,45\nBO,42,-4,-28,-45,-28,45\nW2P7,44,-4,-29,-47,-31,50\nMO5I,10080,-960,-6720,-10800,-6720,10800\nC2IVYJMQ,10560,-960,-6960,-11280,-7440,12000\n7A0L0RGQ,46,-4,-32,-52,-31,49\n6D7ZYL58,0,0,0,0,-25,41\nZ,46,-4,-32,-52,-31,49\nLID,0,0,-6960,-11280,-7440,12000\n77CY,11040,-960,-7680,-12480,-7440,11760\nV5ET,46,-4,-32,-52,-31,49\n0OAJ,51,0,-28,-45,-28,45\nLPNJNFTC,44,-4,0,0,-28,45\nEV47,51,0,-28,-45,-28,45\nC9,0,0,-33,-53,0,0\nQ,45,-4,0,0,-27,44\nJO,41,-4,-29,-47,0,0\nL6,0,0,-31,-50,0,0\nD,0,0,-7138,-11569,-6881,11098\nIM,46,-4,-32,-52,-31,49\n\nfrom,to,ia_re,ia_im,ib_re,ib_im,ic_re,ic_im,loss_p,loss_q\nP7,E,1655,-147,0,0,0,0,14307,7943\nE,BO,0,0,0,0,0,0,0,0\nBO,W2P7,0,0,0,0,0,0,0,0\nE,MO5I,0,0,0,0,0,0,0,0\nW2P7,C2IVYJMQ,0,0,0,0,0,0,0,0\nW2P7,7A0L0RGQ,0,0,0,0,0,0,0,0\nP7,6D7ZYL58,0,0,0,0,0,0,0,0\n7A0L0RGQ,Z,0,0,0,0,0,0,0,0\nC2IVYJMQ,LID,0,0,0,0,0,0,0,0\n7A0L0RGQ,77CY,0,0,0,0,0,0,0,0\nZ,V5ET,0,0,0,0,0,0,0,0\nP7,0OAJ,0,0,0,0,0,0,0,0\nE,LPNJNFTC,1583,-141,0,0,0,0,0,0\n0OAJ,EV47,0,0,0,0,0,0,0,0\n7A0L0RGQ,C9,0,0,0,0,0,0,0,0\nLPNJNFTC,Q,1543,-137,0,0,0,0,0,0\nE,JO,0,0,0,0,0,0,0,0\nC9,L6,0,0,0,0,0,0,0,0\nLID,D,0,0,0,0,0,0,0,0\nV5ET,IM,0,0,0,0,0,0,0,0\n\nsweeps,source_p,source_q,drawn_p,drawn_q,lost_p,lost_q\n3,84405,7497,69983,-7,14307,7943\n"; sweeps = 3 })
@@ -85,15 +85,15 @@ v01157 : fitted (bytes "source,va_re,va_im,vb_re,vb_im,vc_re,vc_im,tol,sweeps\nR
 unfolding opened
 v01157 = refl
 
--- S-1, 00050-Z-CA
-v1-00050 : fitted (bytes "source,va_re,va_im,vb_re,vb_im,vc_re,vc_im,tol,sweeps\nS,720000,0,-360000,-623538,-360000,623538,1,20\n\nfrom,to,phases,kind,p1,p2,p3,p4,p5,p6,p7,p8,p9,p10,p11,p12\nS,N1,ABC,L,300000,600000,100000,200000,90000,180000,300000,600000,80000,170000,300000,600000\n\nnode,phase,kind,vn,p,q\nN1,CA,Z,1247077,90000,30000\n") 1000000 ≡ good (record { text = bytes "node,va_re,va_im,vb_re,vb_im,vc_re,vc_im\nS,720000,0,-360000,-623538,-360000,623538\nN1,719655,-92,-360027,-623542,-359655,623630\n\nfrom,to,ia_re,ia_im,ib_re,ib_im,ic_re,ic_im,loss_p,loss_q\nS,N1,5043,-5692,0,0,-5043,5692,2432342,4855392\n\nsweeps,source_p,source_q,drawn_p,drawn_q,lost_p,lost_q\n2,8995618296,3002857866,8993185954,2998002474,2432342,4855392\n"; sweeps = 2 })
+-- S-1, 00056-mixed
+v1-00056 : fitted (bytes "source,va_re,va_im,vb_re,vb_im,vc_re,vc_im,tol,sweeps\nS,720000,0,-360000,-623538,-360000,623538,1,20\n\nfrom,to,phases,kind,p1,p2,p3,p4,p5,p6,p7,p8,p9,p10,p11,p12\nS,N1,ABC,L,300000,600000,100000,200000,90000,180000,300000,600000,80000,170000,300000,600000\n\nnode,phase,kind,vn,p,q\nN1,AB,P,1247077,90000,30000\nN1,A,P,720000,5000,0\nN1,CA,I,1247077,-7000,300\nS,BC,Z,1247077,0,-5000\n") 1000000 ≡ good (record { text = bytes "node,va_re,va_im,vb_re,vb_im,vc_re,vc_im\nS,720000,0,-360000,-623538,-360000,623538\nN1,719912,-355,-359917,-623222,-360034,623501\n\nfrom,to,ia_re,ia_im,ib_re,ib_im,ic_re,ic_im,loss_p,loss_q\nS,N1,7653,1783,-7456,-1523,498,-260,2413857,4816864\n\nsweeps,source_p,source_q,drawn_p,drawn_q,lost_p,lost_q\n2,8802568494,2533903776,8800154637,2529086912,2413857,4816864\n"; sweeps = 2 })
 unfolding opened
-v1-00050 = refl
+v1-00056 = refl
 
--- S-1, 00124-23-ABC-BC
-v1-00124 : fitted (bytes "source,va_re,va_im,vb_re,vb_im,vc_re,vc_im,tol,sweeps\nS,720000,0,-360000,-623538,-360000,623538,1,20\n\nfrom,to,phases,kind,p1,p2,p3,p4,p5,p6,p7,p8,p9,p10,p11,p12\nS,N1,ABC,L,0,0,0,0,0,0,0,0,0,0,0,0\n\nnode,phase,kind,vn,p,q\nN1,BC,Z,720000,1,0\n") 1000000 ≡ good (record { text = bytes "node,va_re,va_im,vb_re,vb_im,vc_re,vc_im\nS,720000,0,-360000,-623538,-360000,623538\nN1,720000,0,-360000,-623538,-360000,623538\n\nfrom,to,ia_re,ia_im,ib_re,ib_im,ic_re,ic_im,loss_p,loss_q\nS,N1,0,0,0,0,0,0,0,0\n\nsweeps,source_p,source_q,drawn_p,drawn_q,lost_p,lost_q\n1,0,0,0,0,0,0\n"; sweeps = 1 })
+-- S-1, 00127-23-ABC-CA
+v1-00127 : fitted (bytes "source,va_re,va_im,vb_re,vb_im,vc_re,vc_im,tol,sweeps\nS,720000,0,-360000,-623538,-360000,623538,1,20\n\nfrom,to,phases,kind,p1,p2,p3,p4,p5,p6,p7,p8,p9,p10,p11,p12\nS,N1,ABC,L,0,0,0,0,0,0,0,0,0,0,0,0\n\nnode,phase,kind,vn,p,q\nN1,CA,Z,720000,1,0\n") 1000000 ≡ good (record { text = bytes "node,va_re,va_im,vb_re,vb_im,vc_re,vc_im\nS,720000,0,-360000,-623538,-360000,623538\nN1,720000,0,-360000,-623538,-360000,623538\n\nfrom,to,ia_re,ia_im,ib_re,ib_im,ic_re,ic_im,loss_p,loss_q\nS,N1,0,0,0,0,0,0,0,0\n\nsweeps,source_p,source_q,drawn_p,drawn_q,lost_p,lost_q\n1,0,0,0,0,0,0\n"; sweeps = 1 })
 unfolding opened
-v1-00124 = refl
+v1-00127 = refl
 
 -- S-1, 00156-31-CA-2000000
 v1-00156 : fitted (bytes "source,va_re,va_im,vb_re,vb_im,vc_re,vc_im,tol,sweeps\nS,50000,0,0,0,-50000,0,1,20\n\nfrom,to,phases,kind,p1,p2,p3,p4,p5,p6,p7,p8,p9,p10,p11,p12\n\nnode,phase,kind,vn,p,q\nS,CA,P,100000,2000000,0\n") 1000000 ≡ good (record { text = bytes "node,va_re,va_im,vb_re,vb_im,vc_re,vc_im\nS,50000,0,0,0,-50000,0\n\nfrom,to,ia_re,ia_im,ib_re,ib_im,ic_re,ic_im,loss_p,loss_q\n\nsweeps,source_p,source_q,drawn_p,drawn_q,lost_p,lost_q\n1,200000000000,0,200000000000,0,0,0\n"; sweeps = 1 })
@@ -119,3 +119,53 @@ v1-00417 = refl
 v1-00491 : fitted (bytes "source,va_re,va_im,vb_re,vb_im,vc_re,vc_im,tol,sweeps\nS,103,208,-257,-277,74,6,0,20\n\nfrom,to,phases,kind,p1,p2,p3,p4,p5,p6,p7,p8,p9,p10,p11,p12\nS,N0,ABC,Y,5,5,-5000000,-4079422,5000000,5150981,2306961,15000000,0,0,0,0\nN0,N3,ABC,D,5,2,-15000000,559177,5000000,9785380,5000000,4656983,0,0,0,0\nS,N4,AB,R,-12,-7,0,0,0,0,0,0,0,0,0,0\nN0,N2,C,L,0,0,0,0,0,0,0,0,0,0,4999990,5000000\nN0,N1,B,R,0,11,0,0,0,0,0,0,0,0,0,0\n\nnode,phase,kind,vn,p,q\n") 1000000 ≡ good (record { text = bytes "node,va_re,va_im,vb_re,vb_im,vc_re,vc_im\nS,103,208,-257,-277,74,6\nN0,103,208,-257,-277,74,6\nN3,12,81,-144,-194,132,113\nN4,96,193,-246,-265,0,0\nN2,0,0,0,0,74,6\nN1,0,0,-276,-297,0,0\n\nfrom,to,ia_re,ia_im,ib_re,ib_im,ic_re,ic_im,loss_p,loss_q\nS,N0,0,0,0,0,0,0,0,0\nN0,N3,0,0,0,0,0,0,0,0\nS,N4,0,0,0,0,0,0,0,0\nN0,N2,0,0,0,0,0,0,0,0\nN0,N1,0,0,0,0,0,0,0,0\n\nsweeps,source_p,source_q,drawn_p,drawn_q,lost_p,lost_q\n1,0,0,0,0,0,0\n"; sweeps = 1 })
 unfolding opened
 v1-00491 = refl
+
+-- S-3, 00012-source-under
+v3-00012 : fitted (bytes "source,va_re,va_im,vb_re,vb_im,vc_re,vc_im,tol,sweeps\nS,699999,0,-350000,-606218,0,0,1,20\n\nfrom,to,phases,kind,p1,p2,p3,p4,p5,p6,p7,p8,p9,p10,p11,p12\nS,N1,AB,L,1000,1000,0,0,0,0,1000,1000,0,0,0,0\n\nnode,phase,kind,vn,p,q\nS,A,P,1000000,70000,9000\n") 1000000 ≡ good (record { text = bytes "node,va_re,va_im,vb_re,vb_im,vc_re,vc_im\nS,699999,0,-350000,-606218,0,0\nN1,699999,0,-350000,-606218,0,0\n\nfrom,to,ia_re,ia_im,ib_re,ib_im,ic_re,ic_im,loss_p,loss_q\nS,N1,0,0,0,0,0,0,0,0\n\nsweeps,source_p,source_q,drawn_p,drawn_q,lost_p,lost_q\n1,3429995100,440999370,3429995100,440999370,0,0\n"; sweeps = 1 })
+unfolding opened
+v3-00012 = refl
+
+-- S-3, 00048-node-under-complex
+v3-00048 : fitted (bytes "source,va_re,va_im,vb_re,vb_im,vc_re,vc_im,tol,sweeps\nS,420000,559999,-350000,-606218,0,0,1,20\n\nfrom,to,phases,kind,p1,p2,p3,p4,p5,p6,p7,p8,p9,p10,p11,p12\nS,N1,AB,L,1000,1000,0,0,0,0,1000,1000,0,0,0,0\n\nnode,phase,kind,vn,p,q\nN1,A,P,1000000,70000,9000\n") 1000000 ≡ good (record { text = bytes "node,va_re,va_im,vb_re,vb_im,vc_re,vc_im\nS,420000,559999,-350000,-606218,0,0\nN1,420000,559999,-350000,-606218,0,0\n\nfrom,to,ia_re,ia_im,ib_re,ib_im,ic_re,ic_im,loss_p,loss_q\nS,N1,3444,3542,0,0,0,0,3542,3444\n\nsweeps,source_p,source_q,drawn_p,drawn_q,lost_p,lost_q\n1,3429996458,440996556,3429996458,440996556,3542,3444\n"; sweeps = 1 })
+unfolding opened
+v3-00048 = refl
+
+-- S-3, 00088-zero-no-power
+v3-00088 : fitted (bytes "source,va_re,va_im,vb_re,vb_im,vc_re,vc_im,tol,sweeps\nS,0,0,-350000,-606218,0,0,1,20\n\nfrom,to,phases,kind,p1,p2,p3,p4,p5,p6,p7,p8,p9,p10,p11,p12\nS,N1,AB,L,1000,1000,0,0,0,0,1000,1000,0,0,0,0\n\nnode,phase,kind,vn,p,q\nN1,A,P,1000000,0,0\nS,C,P,1,0,0\n") 1000000 ≡ good (record { text = bytes "node,va_re,va_im,vb_re,vb_im,vc_re,vc_im\nS,0,0,-350000,-606218,0,0\nN1,0,0,-350000,-606218,0,0\n\nfrom,to,ia_re,ia_im,ib_re,ib_im,ic_re,ic_im,loss_p,loss_q\nS,N1,0,0,0,0,0,0,0,0\n\nsweeps,source_p,source_q,drawn_p,drawn_q,lost_p,lost_q\n1,0,0,0,0,0,0\n"; sweeps = 1 })
+unfolding opened
+v3-00088 = refl
+
+-- S-3, 00118-vn1999999-1400000
+v3-00118 : fitted (bytes "source,va_re,va_im,vb_re,vb_im,vc_re,vc_im,tol,sweeps\nS,1400000,0,0,0,0,0,1,20\n\nfrom,to,phases,kind,p1,p2,p3,p4,p5,p6,p7,p8,p9,p10,p11,p12\n\nnode,phase,kind,vn,p,q\nS,A,P,1999999,3,-2\n") 1000000 ≡ good (record { text = bytes "node,va_re,va_im,vb_re,vb_im,vc_re,vc_im\nS,1400000,0,0,0,0,0\n\nfrom,to,ia_re,ia_im,ib_re,ib_im,ic_re,ic_im,loss_p,loss_q\n\nsweeps,source_p,source_q,drawn_p,drawn_q,lost_p,lost_q\n1,0,0,0,0,0,0\n"; sweeps = 1 })
+unfolding opened
+v3-00118 = refl
+
+-- S-3, 00148-sweeps-960000-0
+v3-00148 : fitted (bytes "source,va_re,va_im,vb_re,vb_im,vc_re,vc_im,tol,sweeps\nS,720000,0,-360000,-623538,-360000,623538,0,40\n\nfrom,to,phases,kind,p1,p2,p3,p4,p5,p6,p7,p8,p9,p10,p11,p12\nS,N1,A,L,3000000,2000000,0,0,0,0,0,0,0,0,0,0\n\nnode,phase,kind,vn,p,q\nN1,A,P,960000,100000,20000\n") 1000000 ≡ good (record { text = bytes "node,va_re,va_im,vb_re,vb_im,vc_re,vc_im\nS,720000,0,-360000,-623538,-360000,623538\nN1,715241,-1945,0,0,0,0\n\nfrom,to,ia_re,ia_im,ib_re,ib_im,ic_re,ic_im,loss_p,loss_q\nS,N1,13974,-2834,0,0,0,0,60990136,40666436\n\nsweeps,source_p,source_q,drawn_p,drawn_q,lost_p,lost_q\n4,10061280000,2040480000,10000289864,1999813564,60990136,40666436\n"; sweeps = 4 })
+unfolding opened
+v3-00148 = refl
+
+-- S-3, 00178-sweeps-990000-1
+v3-00178 : fitted (bytes "source,va_re,va_im,vb_re,vb_im,vc_re,vc_im,tol,sweeps\nS,720000,0,-360000,-623538,-360000,623538,1,40\n\nfrom,to,phases,kind,p1,p2,p3,p4,p5,p6,p7,p8,p9,p10,p11,p12\nS,N1,A,L,3000000,2000000,0,0,0,0,0,0,0,0,0,0\n\nnode,phase,kind,vn,p,q\nN1,A,P,990000,100000,20000\n") 1000000 ≡ good (record { text = bytes "node,va_re,va_im,vb_re,vb_im,vc_re,vc_im\nS,720000,0,-360000,-623538,-360000,623538\nN1,715241,-1944,0,0,0,0\n\nfrom,to,ia_re,ia_im,ib_re,ib_im,ic_re,ic_im,loss_p,loss_q\nS,N1,13974,-2834,0,0,0,0,60990136,40666436\n\nsweeps,source_p,source_q,drawn_p,drawn_q,lost_p,lost_q\n3,10061280000,2040480000,10000287030,1999827538,60990136,40666436\n"; sweeps = 3 })
+unfolding opened
+v3-00178 = refl
+
+-- S-3, 00208-sweeps-1030000-1000
+v3-00208 : fitted (bytes "source,va_re,va_im,vb_re,vb_im,vc_re,vc_im,tol,sweeps\nS,720000,0,-360000,-623538,-360000,623538,1000,40\n\nfrom,to,phases,kind,p1,p2,p3,p4,p5,p6,p7,p8,p9,p10,p11,p12\nS,N1,A,L,3000000,2000000,0,0,0,0,0,0,0,0,0,0\n\nnode,phase,kind,vn,p,q\nN1,A,P,1030000,100000,20000\n") 1000000 ≡ good (record { text = bytes "node,va_re,va_im,vb_re,vb_im,vc_re,vc_im\nS,720000,0,-360000,-623538,-360000,623538\nN1,717692,-950,0,0,0,0\n\nfrom,to,ia_re,ia_im,ib_re,ib_im,ic_re,ic_im,loss_p,loss_q\nS,N1,6763,-1362,0,0,0,0,14275935,9518234\n\nsweeps,source_p,source_q,drawn_p,drawn_q,lost_p,lost_q\n2,4869360000,980640000,4855044896,971071654,14275935,9518234\n"; sweeps = 2 })
+unfolding opened
+v3-00208 = refl
+
+-- S-3, 00318-rand
+v3-00318 : fitted (bytes "source,va_re,va_im,vb_re,vb_im,vc_re,vc_im,tol,sweeps\n2N1BYYYH,1191457,-20822,-572010,-1054896,-600000,1039230,1000,3\n\nfrom,to,phases,kind,p1,p2,p3,p4,p5,p6,p7,p8,p9,p10,p11,p12\n2N1BYYYH,ZTF,AB,L,1242928,-1748889,471335,732821,0,0,803968,-2095051,0,0,0,0\n\nnode,phase,kind,vn,p,q\nZTF,AB,Z,2078461,0,-10102\n2N1BYYYH,AB,Z,2078461,38543,-237490\nZTF,AB,I,2078461,231,143\n2N1BYYYH,C,Z,1200000,110,16\nZTF,A,Z,1200000,0,-1156\nZTF,B,P,1200000,20095,15355\n2N1BYYYH,AB,I,2078461,157,52\n2N1BYYYH,C,I,1200000,-1876,-2585\n2N1BYYYH,CA,P,2078461,273,161\nZTF,B,Z,1264049,0,-468\n2N1BYYYH,BC,Z,2078461,185665,-6074\n2N1BYYYH,BC,P,1846603,98,15\n2N1BYYYH,A,P,1200000,-15454,-14819\nZTF,A,P,1402918,1181,-151\n2N1BYYYH,C,Z,1200000,0,-11057\nZTF,A,Z,1200000,0,-539\n2N1BYYYH,A,I,1234076,1756,404\n2N1BYYYH,AB,I,2078461,2925,575\n2N1BYYYH,CA,P,2321109,20227,4905\n2N1BYYYH,A,Z,1200000,0,-6906\n2N1BYYYH,AB,I,1706501,227084,63379\nZTF,AB,P,2832803,-30,2\n2N1BYYYH,CA,P,2474345,536,-1\n2N1BYYYH,B,P,1200000,91927,16601\nZTF,A,I,1200000,198315,149341\n") 1000000 ≡ good (record { text = bytes "node,va_re,va_im,vb_re,vb_im,vc_re,vc_im\n2N1BYYYH,1191457,-20822,-572010,-1054896,-600000,1039230\nZTF,1191558,-16298,-573260,-1055752,0,0\n\nfrom,to,ia_re,ia_im,ib_re,ib_im,ic_re,ic_im,loss_p,loss_q\n2N1BYYYH,ZTF,16225,-12106,-1659,-1289,0,0,50235200,-74256415\n\nsweeps,source_p,source_q,drawn_p,drawn_q,lost_p,lost_q\n2,81731328577,-2153002751,81681376892,-2078569291,50235200,-74256415\n"; sweeps = 2 })
+unfolding opened
+v3-00318 = refl
+
+-- S-3, 00409-rand
+v3-00409 : fitted (bytes "source,va_re,va_im,vb_re,vb_im,vc_re,vc_im,tol,sweeps\nZ,1733866,-2000000,-2000000,0,1261642,-473616,1000,2\n\nfrom,to,phases,kind,p1,p2,p3,p4,p5,p6,p7,p8,p9,p10,p11,p12\nZ,Q1UP,ABC,Y,52,1,547888,537576,1244281,1157288,995631,961892,0,0,0,0\n\nnode,phase,kind,vn,p,q\nQ1UP,AB,P,4000000,-1,-26781\n") 1000000 ≡ good (record { text = bytes "node,va_re,va_im,vb_re,vb_im,vc_re,vc_im\nZ,1733866,-2000000,-2000000,0,1261642,-473616\nQ1UP,33344,-38462,-38462,0,24262,-9108\n\nfrom,to,ia_re,ia_im,ib_re,ib_im,ic_re,ic_im,loss_p,loss_q\nZ,Q1UP,6,12,-6,-12,0,0,30,30\n\nsweeps,source_p,source_q,drawn_p,drawn_q,lost_p,lost_q\n1,0,0,-30708,-1092444,30,30\n"; sweeps = 1 })
+unfolding opened
+v3-00409 = refl
+
+-- S-3, 00512-rand
+v3-00512 : fitted (bytes "source,va_re,va_im,vb_re,vb_im,vc_re,vc_im,tol,sweeps\nS8,371761,-394795,-530267,-113521,148721,514938,1000,50\n\nfrom,to,phases,kind,p1,p2,p3,p4,p5,p6,p7,p8,p9,p10,p11,p12\nS8,AB,ABC,L,1,0,0,0,0,0,0,1,0,0,0,0\nAB,90UL,ABC,L,0,-1,0,0,0,0,1,1,0,0,1,1\n90UL,UF,ABC,L,607791,1432290,155419,485757,181820,150626,657004,843494,0,0,801731,-1715242\nUF,UY8E,ABC,L,91787795,43959760,0,0,0,0,97596425,-98935559,27665482,-10218775,41317579,51915574\n\nnode,phase,kind,vn,p,q\nUF,AB,P,939260,601,-142\n") 1000000 ≡ good (record { text = bytes "node,va_re,va_im,vb_re,vb_im,vc_re,vc_im\nS8,371761,-394795,-530267,-113521,148721,514938\nAB,371761,-394795,-530267,-113521,148721,514938\n90UL,371761,-394795,-530267,-113521,148721,514938\nUF,371761,-394795,-530267,-113521,148721,514938\nUY8E,371761,-394795,-530267,-113521,148721,514938\n\nfrom,to,ia_re,ia_im,ib_re,ib_im,ic_re,ic_im,loss_p,loss_q\nS8,AB,65,-5,-65,5,0,0,0,0\nAB,90UL,65,-5,-65,5,0,0,0,0\n90UL,UF,65,-5,-65,5,0,0,350,550\nUF,UY8E,0,0,0,0,0,0,0,0\n\nsweeps,source_p,source_q,drawn_p,drawn_q,lost_p,lost_q\n1,60038190,-13772670,60038190,-13772670,350,550\n"; sweeps = 1 })
+unfolding opened
+v3-00512 = refl

@@ -3,7 +3,8 @@
 //! Every case is a feeder and a report. The study is run with buffers of many lengths, filled beforehand and with guard
 //! bytes around them, and the answer with its sweeps and every byte are compared; then the check. The first difference
 //! ends the run, and its files are written to the folder named by FUZZ_OUT (or here). How often each answer was met is
-//! printed at the end, for all feeders and for those with a load row between two phases.
+//! printed at the end: for all feeders, for those with a load row between two phases, and for those with a P row below 70
+//! per cent of vn (the study's answers if in any sweep, the check's if in the report).
 //!
 //! `--self` compares the twin with itself by the same calls. There TWIN_WRONG=KIND:N spoils the N-th call on the other
 //! side, to show that the fuzzer notices: KIND is `answer`, `sweeps`, `byte` (in the report), `behind` (a byte behind
@@ -11,9 +12,12 @@
 
 use std::collections::BTreeMap;
 use std::sync::atomic::{AtomicU64, Ordering};
+use twin::equations::Phases;
 use twin::generate::{any_feeder, any_report, Random};
+use twin::ladder::settle_watched;
 use twin::outside::{twin_check, twin_study, Calls, PROVED};
-use twin::{account, parts, Answer, MAX_FILE};
+use twin::report::read_report;
+use twin::{account, parts, read_feeder, Answer, Feeder, MAX_FILE};
 
 const GUARD: usize = 64;
 
@@ -105,6 +109,10 @@ struct Counts {
     delta: Met,
     /// Whether the feeder in hand is one.
     has_delta: bool,
+    /// Those where a P row counts as an impedance.
+    low: Met,
+    /// Whether the case in hand is one.
+    has_low: bool,
     calls: u64,
 }
 
@@ -123,7 +131,9 @@ impl Counts {
 
     /// Where the feeder in hand is counted.
     fn now(&mut self) -> impl Iterator<Item = &mut Met> {
-        std::iter::once(&mut self.all).chain(self.has_delta.then_some(&mut self.delta))
+        let delta = self.has_delta.then_some(&mut self.delta);
+        let low = self.has_low.then_some(&mut self.low);
+        std::iter::once(&mut self.all).chain(delta).chain(low)
     }
 }
 
@@ -135,11 +145,32 @@ fn has_delta(feeder: &[u8]) -> bool {
     })
 }
 
+/// Whether a P row counts as an impedance at these voltages.
+fn has_low(feeder: &Feeder, v: &[Phases]) -> bool {
+    feeder.loads.iter().any(|load| load.is_low(v))
+}
+
+/// Whether one does so in any sweep of the study.
+fn low_in_study(feeder: &[u8]) -> bool {
+    let Ok(feeder) = read_feeder(feeder) else { return false };
+    let mut low = false;
+    // Its answer is compared elsewhere.
+    let _ = settle_watched(&feeder, |v| low |= has_low(&feeder, v));
+    low
+}
+
+/// Whether one does so in the report, if that can be read.
+fn low_in_report(feeder: &[u8], report: &[u8]) -> bool {
+    let Ok(feeder) = read_feeder(feeder) else { return false };
+    read_report(&feeder, report).is_ok_and(|report| has_low(&feeder, &report.voltages))
+}
+
 /// Runs both sides on one case, in all buffers and with the report; the error says what differs.
 fn compare(far: &Calls, feeder: &[u8], report: &[u8], salt: u8, counts: &mut Counts) -> Result<(), String> {
     let mut large = Guarded::new(MAX_FILE, salt);
     let first = twin::study(feeder, large.middle());
     counts.has_delta = has_delta(feeder);
+    counts.has_low = low_in_study(feeder);
     counts.study(first);
 
     let mut lengths = vec![MAX_FILE, 0, 1];
@@ -200,6 +231,7 @@ fn compare_check(
     due: Option<Answer>,
 ) -> Result<(), String> {
     let answer = twin::check(feeder, report);
+    counts.has_low = low_in_report(feeder, report);
     counts.check(answer);
     counts.calls += 1;
     if due.is_some_and(|due| due != answer) {
@@ -276,5 +308,7 @@ fn main() {
     line("check", &counts.all.checks);
     line("study, with delta loads", &counts.delta.studies);
     line("check, with delta loads", &counts.delta.checks);
+    line("study, with low voltage", &counts.low.studies);
+    line("check, with low voltage", &counts.low.checks);
     println!("{count} cases of seed {seed}, {} calls on each side, 0 differences", counts.calls);
 }

@@ -6,7 +6,7 @@ use mir.Facts.{toZ-ofZ}
 use mir.Syntax.{w64}
 use mir.Val.{SFits}
 use borrow.Author.Needs.{sfits-of}
-use Rattle.equations.specs.Equations.{currentAt, rated, weight}
+use Rattle.equations.specs.Equations.{rated, weight}
 use Rattle.equations.specs.Limits.{counted-most, counted-some, rated-within, weight-most}
 use Rattle.equations.specs.Weight.{weight-pos}
 use Rattle.integers.specs.Machine.{zsize}
@@ -19,10 +19,10 @@ use Rattle.loads.proofs.current_at.Tie as tie
 fits : (s : tie.Start) → SFits w64 (s .args .l .vn)
 fits s = search sfits-of
 
-weighed : (c : tie.After-weigh) → let s = c .before .before in c .weigh .result ≡ weight (s .args .l .kind) (s .args .l .vn) (s .args .u)
+weighed : (c : tie.After-weigh) → let s = c .before .before in c .weigh .result ≡ weight (s .args .kind) (s .args .l .vn) (s .args .u)
 weighed c =
     let s = c .before .before in
-    c .weigh .ensures ∙ ap (λ (v : ℤ). weight (s .args .l .kind) v (s .args .u)) (toZ-ofZ (fits s))
+    c .weigh .ensures ∙ ap (λ (v : ℤ). weight (s .args .kind) v (s .args .u)) (toZ-ofZ (fits s))
 
 rating : (c : tie.After-scale) → c .scale .result ≡ rated (c .before .before .before .args .l)
 unfolding rated
@@ -50,12 +50,11 @@ round-requires c κs =
     let w = c .before .before in
     let s = w .before .before in
     let e = weighed w in (
-      rw e (weight-pos (s .args .l .kind) (s .args .l .vn) (s .args .u) (counted-some (s .pre .0 .vn)) (s .pre .1 .1)),
-      omega (arith, e, weight-most (s .args .l .kind) (s .args .l .vn) (counted-most (s .pre .0 .vn)) (s .pre .1 .0)),
+      rw e (weight-pos (s .args .kind) (s .args .l .vn) (s .args .u) (counted-some (s .pre .0 .vn)) (s .pre .1 .1)),
+      omega (arith, e, weight-most (s .args .kind) (s .args .l .vn) (counted-most (s .pre .0 .vn)) (s .pre .1 .0)),
     )
 
 returns : tie.Need-returns
-unfolding currentAt
 returns c =
     let p = c .before .before in
     c .round .ensures ∙ ap₂ rndPair (c .before .mul-conj .ensures ∙ ap (λ (x : Pair). p .before .before .before .args .u ·* x) (rating p)) (weighed (p .before))

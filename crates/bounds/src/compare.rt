@@ -1,14 +1,14 @@
 // The report against the solution in floats.
-use crate::phasor::Phasor;
-use crate::phasor::PhasorRows;
-use crate::phasor::Phasors;
-use crate::phasor::distance;
-use crate::phasor::larger;
-use crate::phasor::phasors_at;
-use crate::phasor::phasors_of;
-use crate::solver::place;
 use arrays::Threes;
 use arrays::three_at;
+use floats::phasor::Phasor;
+use floats::phasor::PhasorRows;
+use floats::phasor::Phasors;
+use floats::phasor::distance;
+use floats::phasor::larger;
+use floats::phasor::phasors_at;
+use floats::phasor::phasors_of;
+use floats::solver::place;
 
 // The largest distance in re or im, and the largest share of its bound that a distance has, each over all rows and phases.
 pub struct Compared {

@@ -1,8 +1,8 @@
 -- `bounds_on` ends after 1,000 sweeps. Assumes nothing.
 use Prim.Native.Nat.{_≤_, _-_}
 use borrow.Author.Needs.{needs}
-use Rattle.floats.proofs.bound.bounds_on.Statement.{statement}
-use Rattle.floats.proofs.bound.bounds_on.Tie as tie
+use Rattle.bounds.proofs.bound.bounds_on.Statement.{statement}
+use Rattle.bounds.proofs.bound.bounds_on.Tie as tie
 
 abbrev Inv-loop : tie.InvT-loop
 Inv-loop solved reported voltages₀ currents₀ branches rows order loads count none moved sweeps₀ voltages currents sweeps =

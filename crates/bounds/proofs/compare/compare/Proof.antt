@@ -1,8 +1,8 @@
 -- `compare` is safe and ends: k goes up to the last row. Assumes nothing.
 use Prim.Native.Nat.{_≤_, _+_, _-_}
 use borrow.Author.Needs.{needs}
-use Rattle.floats.proofs.compare.compare.Statement.{statement}
-use Rattle.floats.proofs.compare.compare.Tie as tie
+use Rattle.bounds.proofs.compare.compare.Statement.{statement}
+use Rattle.bounds.proofs.compare.compare.Tie as tie
 
 abbrev Inv-loop : tie.InvT-loop
 Inv-loop rows solved reported bounds moved last c₀ k₀ c k = k ≤ last + 1

@@ -11,26 +11,10 @@
 //
 // Where the voltage across a load is off by e, its current is off by its slope times e and its own rounding. With V the voltage across it in floats and W the
 // reported one, the slope is |S| / (|V|·|W|) for constant power, at most 2·|S| / (vn·(|V| + |W|)) for constant current, and |S| / vn² for constant impedance.
+// Below 70 per cent of vn constant power is an impedance. Where V and W both are that low, so is the slope. Where one of them is, the current is off by at most the
+// impedance's slope times e, and what the two currents at the other, as an impedance and at constant power, differ by.
 // Where these sweeps settle, no report that follows documents 01 and 02 is further off: what a report is off by is at most one more sweep of itself. Where they
 // do not, as near a collapse of the voltage, there is no bound.
-use crate::component::Quantity;
-use crate::component::rounding;
-use crate::phasor::Phasor;
-use crate::phasor::PhasorRows;
-use crate::phasor::Phasors;
-use crate::phasor::add_at;
-use crate::phasor::length;
-use crate::phasor::no_phasors;
-use crate::phasor::phasor_of;
-use crate::phasor::phasors_at;
-use crate::phasor::phasors_of;
-use crate::phasor::real;
-use crate::phasor::root;
-use crate::solver::load_count;
-use crate::solver::on_phases;
-use crate::solver::place;
-use crate::solver::sweep;
-use crate::solver::voltage_across;
 use arrays::Threes;
 use arrays::three_at;
 use feeder::Load;
@@ -38,6 +22,26 @@ use feeder::LoadKind;
 use feeder::Network;
 use feeder::Terminals;
 use feeder::Three;
+use floats::component::Quantity;
+use floats::component::rounding;
+use floats::phasor::Phasor;
+use floats::phasor::PhasorRows;
+use floats::phasor::Phasors;
+use floats::phasor::absolute;
+use floats::phasor::add_at;
+use floats::phasor::length;
+use floats::phasor::no_phasors;
+use floats::phasor::phasor_of;
+use floats::phasor::phasors_at;
+use floats::phasor::phasors_of;
+use floats::phasor::real;
+use floats::phasor::root;
+use floats::solver::load_count;
+use floats::solver::low;
+use floats::solver::on_phases;
+use floats::solver::place;
+use floats::solver::sweep;
+use floats::solver::voltage_across;
 
 // Whether there are bounds, and what is added to those on the voltages for the last sweep's movement.
 pub struct Bounds {
@@ -45,16 +49,38 @@ pub struct Bounds {
     pub moved: f64,
 }
 
+// What the currents at constant power and as an impedance differ by, at a voltage of length x.
+fn step(s: f64, vn: f64, x: f64) -> f64 {
+    absolute(s / x - s * x / (vn * vn))
+}
+
+// How far the current of a load of constant power is off where the voltage across it is off by at most e, its rounding left out.
+fn power_bound(s: f64, vn: f64, solved: Phasor, reported: Phasor, e: f64) -> f64 {
+    let v = length(solved);
+    let w = length(reported);
+    let as_impedance = s / (vn * vn) * e;
+    if low(vn, solved) {
+        if low(vn, reported) {
+            return as_impedance;
+        }
+        return as_impedance + step(s, vn, w);
+    }
+    if low(vn, reported) {
+        return as_impedance + step(s, vn, v);
+    }
+    s / (v * w) * e
+}
+
 // How far the current of a load is off where the voltage across it is off by at most e: its slope times e, its rounding, and for constant current its whole root.
 fn load_bound(l: Load, solved: Phasor, reported: Phasor, e: f64) -> f64 {
     let kind = l.kind;
     let s = 100000.0 * length(phasor_of(l.s));
     let vn = real(l.vn);
-    let v = length(solved);
-    let w = length(reported);
     match kind {
-        LoadKind::Power => s / (v * w) * e + rounding(),
+        LoadKind::Power => power_bound(s, vn, solved, reported, e) + rounding(),
         LoadKind::Current => {
+            let v = length(solved);
+            let w = length(reported);
             let least_root = if w < 2.0 { 1.0 } else { w - 1.0 };
             2.0 * s / (vn * (v + w)) * e + s / (vn * least_root) + rounding()
         }

@@ -1,8 +1,8 @@
 -- `drawn_bounds` is safe and ends: row goes up to the number of loads. Assumes nothing.
 use Prim.Native.Nat.{_≤_, _-_}
 use borrow.Author.Needs.{needs}
-use Rattle.floats.proofs.bound.drawn_bounds.Statement.{statement}
-use Rattle.floats.proofs.bound.drawn_bounds.Tie as tie
+use Rattle.bounds.proofs.bound.drawn_bounds.Statement.{statement}
+use Rattle.bounds.proofs.bound.drawn_bounds.Tie as tie
 
 abbrev Inv-loop : tie.InvT-loop
 Inv-loop rows solved reported bounds moved own₀ loads count row₀ own row = row ≤ count
