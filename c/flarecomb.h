@@ -32,7 +32,7 @@ extern "C" {
 #endif
 
 /* the version of this header and of the library beside it: that of the file VERSION; CHANGELOG.md says what each version brings */
-#define FLARECOMB_VERSION "0.3.0"
+#define FLARECOMB_VERSION "0.4.0"
 
 /* the three parts of an answer: bits 0 to 31, 32 to 47, and 48 to 63 */
 #define FLARECOMB_VALUE(answer) ((uint32_t)((uint64_t)(answer) & 0xffffffffu))
@@ -52,7 +52,7 @@ enum flarecomb_refusal {
     FLARECOMB_NOT_REACHED = 22,     /* the line of a branch that the source does not reach */
     FLARECOMB_PHASE_ABSENT = 23,    /* the line of a branch or load with a phase that is absent, a transformer not on ABC, or a load at an unknown node */
     FLARECOMB_NOT_ZERO = 24,        /* the line of a branch with a field that is due 0 and is not */
-    FLARECOMB_ZERO_VOLTAGE = 30,    /* the sweep with a P or I load at zero voltage; 0 in the check */
+    FLARECOMB_ZERO_VOLTAGE = 30,    /* the sweep with an I load at zero voltage; 0 in the check */
     FLARECOMB_LOAD_BEYOND = 31,     /* the sweep with a load's current beyond 2,000,000 mA; 0 in the check */
     FLARECOMB_CURRENT_BEYOND = 32,  /* the sweep with a branch's current beyond 2,000,000 mA; 0 in the check */
     FLARECOMB_VOLTAGE_BEYOND = 33,  /* the sweep with a voltage beyond 2,000,000 cV; 0 before the first sweep */

@@ -191,10 +191,15 @@ def _as_impedances(feeder, crossing):
         if ends is None:
             return []
         sweeps, tol = ends[1], f" with tol {ends[0]}"
-    first = crossing[0][0]
-    return ["Look at why the voltage is so low: impedances, loads, taps and vn. Where a motor is known to run below 70 per cent, write "
-            f"{'the row' if len(lines) == 1 else 'these rows'} as Z: the study then takes {counted(sweeps, 'sweep')}{tol}, "
-            f"and line {first.line} has {per_cent_of_rated(first, _at(first, studied.used[sweeps - 1]))} per cent of vn."]
+    first, reported = crossing[0][0], studied.used[sweeps - 1]
+    rows = "the row" if len(lines) == 1 else "these rows"
+    said = (f"Look at why the voltage is so low: impedances, loads, taps and vn. With {rows} as Z the study takes {counted(sweeps, 'sweep')}{tol}, "
+            f"and line {first.line} has {per_cent_of_rated(first, _at(first, reported))} per cent of vn")
+    if not all(equations.is_low(load, _at(load, reported)) for load, _ in crossing):
+        return [said + (": there a P row is constant power." if len(lines) == 1 else ".")]
+    # Below 70 per cent the rows take the same currents as P, so that the report is one of the feeder as it is.
+    passes = f" The check passes that report with {rows} as P too." if not tol and sweeps <= feeder.source.sweeps else ""
+    return [said + f". Where a motor does run below 70 per cent, write Z.{passes}"]
 
 
 def _not_settled(feeder, studied):

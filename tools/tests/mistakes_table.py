@@ -661,7 +661,7 @@ MISTAKES = (
         "It does not settle in 100 sweeps, the most that may be made.",
         "The load in line 10 (node N3, phase A, kind P, p 120000 W, q 40000 var) goes to and fro across 70 per cent of vn, below which it acts as Z: it has 63.77 per cent in sweep 99 and 78.75 per cent in sweep 100.",
         "No tol up to 1000 settles it: as P the load draws so much that its voltage falls below 70 per cent, as Z so little that it rises above.",
-        "Look at why the voltage is so low: impedances, loads, taps and vn. Where a motor is known to run below 70 per cent, write the row as Z: the study then takes 10 sweeps, and line 10 has 76.24 per cent of vn.",
+        "Look at why the voltage is so low: impedances, loads, taps and vn. With the row as Z the study takes 10 sweeps, and line 10 has 76.24 per cent of vn: there a P row is constant power.",
         "The largest impedance on its way is that of line 7 (N2,N3): r 90 ohm and x 90 ohm on phase A.",
     )),
     Mistake("load_beyond_the_line", None, 34, 100, (
@@ -669,7 +669,7 @@ MISTAKES = (
         "In sweep 100, the last that is allowed, phase A of node N1 still moved by 112912 cV; tol is 1.",
         "The load in line 8 (node N1, phase A, kind P, p 720000 W, q 0 var) goes to and fro across 70 per cent of vn, below which it acts as Z: it has 65.98 per cent in sweep 99 and 81.67 per cent in sweep 100.",
         "No tol up to 1000 settles it: as P the load draws so much that its voltage falls below 70 per cent, as Z so little that it rises above.",
-        "Look at why the voltage is so low: impedances, loads, taps and vn. Where a motor is known to run below 70 per cent, write the row as Z: the study then takes 11 sweeps, and line 8 has 78.26 per cent of vn.",
+        "Look at why the voltage is so low: impedances, loads, taps and vn. With the row as Z the study takes 11 sweeps, and line 8 has 78.26 per cent of vn: there a P row is constant power.",
         "The largest impedance on its way is that of line 5 (S,N1): r 20 ohm and x 0 ohm on phase A.",
     )),
     Mistake("load_beyond_the_line_with_low_vn", None, 31, 38, (
@@ -713,7 +713,7 @@ MISTAKES = (
         "In sweep 100, the last that is allowed, phase A of node N1 still moved by 98480 cV; tol is 1.",
         "The load in line 8 (node N1, phase A, kind P, p 259000 W, q 0 var) goes to and fro across 70 per cent of vn, below which it acts as Z: it has 64.42 per cent in sweep 99 and 83.90 per cent in sweep 100.",
         "No tol up to 1000 settles it: as P the load draws so much that its voltage falls below 70 per cent, as Z so little that it rises above.",
-        "Look at why the voltage is so low: impedances, loads, taps and vn. Where a motor is known to run below 70 per cent, write the row as Z: the study then takes 9 sweeps, and line 8 has 80.01 per cent of vn.",
+        "Look at why the voltage is so low: impedances, loads, taps and vn. With the row as Z the study takes 9 sweeps, and line 8 has 80.01 per cent of vn: there a P row is constant power.",
         "The largest impedance on its way is that of line 5 (S,N1): r 50 ohm and x 0 ohm on phase A.",
     )),
     Mistake("load_near_the_most_with_low_vn", None, 34, 100, (

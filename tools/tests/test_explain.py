@@ -152,7 +152,7 @@ class Advice(unittest.TestCase):
 
     def test_power_loads_as_impedances(self):
         """With the load that goes to and fro across 70 per cent of vn as Z there is a report of so many sweeps."""
-        pattern = r"The load in line (\d+) [^\n]* goes to and fro [^\n]*\n(?:[^\n]*\n)*[^\n]* as Z: the study then takes (\d+) sweeps"
+        pattern = r"The load in line (\d+) [^\n]* goes to and fro [^\n]*\n(?:[^\n]*\n)*[^\n]* as Z the study takes (\d+) sweeps"
         for data, mistake, match in self.advised(pattern):
             lines = data.decode().split("\n")
             row = lines[int(match[1]) - 1]
@@ -184,15 +184,29 @@ class LowVoltage(unittest.TestCase):
             "it has 68.08 per cent in sweep 99 and 84.24 per cent in sweep 100.",
         ], said[1:2])
         self.assertRegex(said[2], "^No tol up to 1000 settles it: as P the load draws so much")
-        self.assertRegex(said[3], r"write the row as Z: the study then takes \d+ sweeps, and line 8 has 81\.20 per cent of vn\.$")
+        self.assertRegex(said[3], r"With the row as Z the study takes \d+ sweeps, and line 8 has 81\.20 per cent of vn: there a P row is constant power\.$")
         self.assertEqual("The largest impedance on its way is that of line 5 (S,N1): r 50 ohm and x 0 ohm on phase A.", said[4])
+
+    def test_a_feeder_that_steps_to_and_fro_around_a_report(self):
+        """500 kW at 7200 V are an impedance of 103.7 ohm, which has 67.5 per cent behind 50 ohm; the sweeps do not come there from above."""
+        said = self.refused("N1,A,P,720000,500000,0", source=SOURCE_ROW.replace(",1,20", ",5,100"))
+        self.assertRegex(said[3], r"With the row as Z the study takes 16 sweeps, and line 8 has 67\.46 per cent of vn\. "
+                         r"Where a motor does run below 70 per cent, write Z\. The check passes that report with the row as P too\.$")
+        powers, impedances = (read_feeder(feeder_text(SOURCE_ROW.replace(",1,20", ",5,100"), [self.line()], [f"N1,A,{kind},720000,500000,0"]).encode())
+                              for kind in "PZ")
+        studied = equations.study(impedances)
+        _, currents, trouble = equations.currents_at(powers, studied.voltages, 0)
+        self.assertEqual((studied.currents, None), (currents, trouble))
+        # with a limit below its sweeps, or another tol than the feeder's, it is no report of this feeder
+        for row in (SOURCE_ROW.replace(",1,20", ",5,15"), SOURCE_ROW.replace(",1,20", ",1,100")):
+            self.assertTrue(self.refused("N1,A,P,720000,500000,0", source=row)[-2].endswith("write Z."))
 
     def test_several_loads(self):
         load = "N1,A,P,720000,120000,0"
         for more, words in ((1, " So does the load in line 9."), (3, " So do the loads in lines 9 to 11.")):
             said = self.refused(*[f"N1,A,P,720000,{240000 // (more + 1)},{place}" for place in range(more + 1)])
             self.assertTrue(said[1].endswith(words), said)
-            self.assertIn("write these rows as Z", said[3])
+            self.assertRegex(said[3], r"With these rows as Z the study takes \d+ sweeps, and line 8 has 81\.\d\d per cent of vn\.$")
         # a load at the source stays at 100 per cent
         self.assertNotIn("So do", self.refused("N1,A,P,720000,240000,0", load.replace("N1", "S"))[1])
 
@@ -222,7 +236,7 @@ class LowVoltage(unittest.TestCase):
         source, load = self.SOURCE.replace(",1,100", ",0,100"), "N1,A,P,720000,300000,100000"
         branch = line_row("S", "N1", "A", [30000000, 30000000])
         said = self.refused(load, branches=[branch], source=source)[3]
-        match = re.search(r"as Z: the study then takes (\d+) sweeps with tol (\d+), and line 8 has ([\d.]+) per cent", said)
+        match = re.search(r"as Z the study takes (\d+) sweeps with tol (\d+), and line 8 has ([\d.]+) per cent", said)
         source = source.replace(",0,100", f",{match[2]},100")
         studied = equations.study(read_feeder(feeder_text(source, [branch], [load.replace(",P,", ",Z,")]).encode()))
         self.assertIsNone(studied.trouble)

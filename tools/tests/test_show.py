@@ -433,10 +433,19 @@ class Warnings(unittest.TestCase):
         report = (EXAMPLES / "example.report").read_text().replace(*report_change)
         return notes.warnings(join(feeder, report))
 
-    def test_no_example_is_warned_of(self):
+    def test_one_example_is_warned_of(self):
+        """low_voltage is fed at 70 per cent of what its loads are rated for: all of its load rows are named, six by themselves and then the rest."""
         for path in sorted(EXAMPLES.glob("*.feeder")):
             with self.subTest(path.name):
-                self.assertEqual(notes.warnings(join_example(path.stem)), [])
+                warnings = notes.warnings(join_example(path.stem))
+                self.assertEqual(len(warnings), 7 if path.stem == "low_voltage" else 0)
+                self.assertTrue(all("vn is" in warning or "likewise lines 17 to 22" in warning for warning in warnings), warnings)
+
+    def test_the_example_at_low_voltage(self):
+        """At just 70 per cent, at the source, P rows are constant power; below it they act as Z; the I row and the Z row are what they are."""
+        flows = join_example("low_voltage").loads
+        self.assertEqual("PPZZIZZZPPPP", "".join(flow.acts_as for flow in flows))
+        self.assertEqual(100 * power.square(flows[0].voltage), 49 * flows[0].load.vn ** 2)
 
     def assert_one(self, warnings, *words):
         self.assertEqual(len(warnings), 1, warnings)
