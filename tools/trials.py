@@ -3,7 +3,8 @@
 
   Opened          the names of the definitions behind the answers on one line, read from the crates' specs (no vectors); due again when a
                   definition is added
-  Refusals        for each refusal of each call the smallest case of the first file
+  Refusals        for each refusal of each call the smallest case of the first file; 9 stands in TooLong and the check's 31 in ByHand, which are not
+                  written here
   StudyReports, StudyLayout, StudyRefusals, CheckPasses, CheckRefusals
                   of each file of cases every tenth case whose files are under 3,000 bytes together, spread over the kinds of answer
   Accounts        the power account's numbers for every tenth passing case of each file, worked out here a second time from documents 01 and 02;
@@ -23,6 +24,7 @@ DEFINITIONS = {'integers': 'Rounding Root Pairs Lists', 'text': 'Text Lines', 'f
 REFUSALS = {10: 'Layout', 11: 'OutOfLimit', 20: 'UnknownFrom', 21: 'SecondTo', 22: 'NotReached', 23: 'PhaseAbsent', 24: 'NotZero',
             30: 'ZeroVoltage', 31: 'LoadBeyond', 32: 'CurrentBeyond', 33: 'VoltageBeyond', 34: 'NotSettled', 40: 'BufferShort',
             50: 'ReportLayout', 51: 'NameDiffers', 52: 'SourceDiffers', 53: 'CurrentDiffers', 54: 'VoltageOff', 55: 'TotalDiffers'}
+CALLS = {'study': [n for n in REFUSALS if n <= 40], 'check': [n for n in REFUSALS if n <= 32 or n >= 50]}
 NO_VALUE = (50, 55)
 LARGE = 1000000
 STEP = 10
@@ -234,6 +236,9 @@ def one_of_each(ordered):
     for case in sorted(ordered, key=lambda c: c['size']):
         if case['kind'][1] == 'refuse' and len(case['f']) >= 150:
             smallest.setdefault(case['kind'], case)
+    # None is missing but the check's 31, of which the cases have none since S-3.
+    refused = {(call, number) for call, _, number in smallest}
+    assert {(call, n) for call, numbers in CALLS.items() for n in numbers if n > 24} - refused <= {('check', 31)}, refused
     for (call, answer, number), case in list(smallest.items()):
         if number <= 24:
             kind = ('check', answer, number)
@@ -245,7 +250,7 @@ def main():
     opened()
     files = [sorted(cases(path), key=lambda c: c['kind']) for path in sys.argv[1:]]
     answered = [[c for c in ordered if c['call'] != 'account'] for ordered in files]
-    module('Refusals', "One trial for each refusal of each call, the smallest of the base's cases; 9 is in TooLong.", one_of_each(answered[0]))
+    module('Refusals', "One trial for each refusal of each call, the smallest of the base's cases; 9 is in TooLong, and the check's 31 in ByHand.", one_of_each(answered[0]))
     chosen = [(number, c) for number, ordered in enumerate(answered) for c in ordered[STEP // 2::STEP]]
 
     def named(letter, number, case):

@@ -121,7 +121,8 @@ def _report_sentences(feeder, feeder_data, report_data, number, value):
     if number == 52:
         return value, explain_report.fixed_voltage(feeder, report, value)
     if 30 <= number <= 32:
-        return None, explain_sweeps.check_fault(feeder, explain_report.voltages_of(feeder, report), number)
+        sentences = explain_sweeps.check_fault(feeder, explain_report.voltages_of(feeder, report), number)
+        return None, sentences + (explain_report.older_rule(feeder, report) if sentences and number == 32 else [])
     if number == 53:
         line, sentences = value, explain_report.other_current(feeder, report, value)
     elif number == 54:

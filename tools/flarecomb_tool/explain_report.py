@@ -146,7 +146,7 @@ def _follows(feeder, report):
 
 
 def older_rule(feeder, report):
-    """Sentences for 53 and 55 where all values of the report agree if loads of kind P have constant power at every voltage, as they had before
+    """Sentences for 32, 53 and 55 where all values of the report agree if loads of kind P have constant power at every voltage, as they had before
     the low-voltage rule; [] where they do not, and where a load of kind P has voltage 0, which was refused with 30 then."""
     voltages = voltages_of(feeder, report)
     power_loads = [(load, equations.load_voltage(load, voltages[load.node])) for load in feeder.loads if load.kind == "P"]

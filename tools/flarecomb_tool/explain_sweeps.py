@@ -7,7 +7,7 @@ from .wording import amperes, between_said, counted, lines_said, listed, ohms, p
 
 MOST_SWEEPS = 100
 MOST_TOL = 1000
-# In so many of the last sweeps a load is looked at for going to and fro; voltages that repeat mostly do so after two or three sweeps.
+# In so many of the last sweeps a load is looked at for going to and fro.
 SWEEPS_LOOKED_AT = 10
 
 TOO_LARGE_A_DROP = ("The currents make a larger drop than the branches can have: too much load, impedances that are too large, "
@@ -229,11 +229,12 @@ def _not_settled(feeder, studied):
     if ends:
         tol, sweep = ends
         limit = "" if sweep <= source.sweeps else f" and sweeps {sweep}"
-        return sentences + [f"With tol {tol}{limit} it ends in sweep {sweep}."]
+        side = ", with the load on the side where that sweep finds it: as P it draws about twice what it draws as Z" if crossing else ""
+        return sentences + [f"With tol {tol}{limit} it ends in sweep {sweep}{side}."]
     advice = _as_impedances(feeder, crossing) if crossing else []
     if advice:
-        sentences.append(f"No tol up to {MOST_TOL} settles it: as P the load draws so much that its voltage falls below 70 per cent, "
-                         "as Z so little that it rises above.")
+        sentences.append(f"No tol up to {MOST_TOL} settles it: as P the load draws so much that a sweep has it below 70 per cent, "
+                         "and as Z so little that a later one has it above again.")
         return sentences + advice + _largest_impedance(feeder, crossing[0][0].node, load_phases(crossing[0][0].phase))
     return sentences + [
         f"No tol up to {MOST_TOL} settles it: a load is near or beyond the most that the branches above it can carry."

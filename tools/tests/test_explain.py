@@ -149,7 +149,6 @@ class Advice(unittest.TestCase):
             written = self.study(b"\n".join(lines))
             self.assertEqual(match[1] or match[3], written.split("\n")[-2].split(",")[0], mistake.feeder)
 
-
     def test_power_loads_as_impedances(self):
         """With the load that goes to and fro across 70 per cent of vn as Z there is a report of so many sweeps."""
         pattern = r"The load in line (\d+) [^\n]* goes to and fro [^\n]*\n(?:[^\n]*\n)*[^\n]* as Z the study takes (\d+) sweeps"
@@ -219,7 +218,8 @@ class LowVoltage(unittest.TestCase):
         """The load draws 1 A through 10 ohm as P and half of that as Z; 70 per cent of vn lies between 7190 V and 7195 V."""
         said = self.refused("N1,A,P,1027571,7200,0", branches=[self.line(ohms=10)])
         self.assertTrue(said[1].endswith("it has 70.02 per cent in sweep 99 and 69.97 per cent in sweep 100."), said)
-        self.assertRegex(said[2], r"^With tol \d+ it ends in sweep \d+\.$")
+        self.assertRegex(said[2], r"^With tol \d+ it ends in sweep \d+, with the load on the side where that sweep finds it: as P it draws about twice "
+                         r"what it draws as Z\.$")
         tol, sweep = re.findall(r"\d+", said[2])
         feeder = feeder_text(SOURCE_ROW.replace(",1,20", f",{tol},{sweep}"), [self.line(ohms=10)], ["N1,A,P,1027571,7200,0"]).encode()
         self.assertIsNone(equations.study(read_feeder(feeder)).trouble)
@@ -272,6 +272,9 @@ class LowVoltage(unittest.TestCase):
             # a load at the source is in no branch's current
             (SOURCE_ROW, [], ["S,CA,P,2160000,72000,0"], 55, 0, "line 7 of the feeder. Study the feeder again."),
             (self.SOURCE, [self.line()], ["N1,A,P,720000,240000,0"], 53, 6, "line 8 of the feeder. The study now refuses the feeder with 34."),
+            # a load that gave 417 A now gives 54 A, and the branch's current is beyond its limit
+            (SOURCE_ROW, [self.line(ohms=0)], ["N1,A,Z,720000,3000000,0"] * 5 + ["N1,A,P,2000000,-3000000,0"], 32, 0,
+             "line 13 of the feeder. The study now refuses the feeder with 32."),
         ):
             feeder = feeder_text(source, branches, loads)
             text = explain.check_refusal(feeder.encode(), self.older(feeder).encode(), number, value)

@@ -11,7 +11,7 @@ use Rattle.account.specs.Account.{PowerAccount, allowance, branchAllowan
 use Rattle.answers.specs.AnswerLaws.{same-good}
 use Rattle.answers.specs.Answers.{good}
 use Rattle.equations.specs.Equations.{actsAs, currentAt, loadCurrent, mix, rated, voltageOn, weight, zero3}
-use Rattle.equations.specs.LowVoltage.{acts-high, acts-low, asImpedance}
+use Rattle.equations.specs.LowVoltage.{acts-high, acts-low, asImpedance, motor}
 use Rattle.feeder.specs.Feeder.{Feeder, reading}
 use Rattle.feeder.specs.declared.Connection.the-variants.{Wye}
 use Rattle.feeder.specs.declared.Device.the-variants.{Line, Regulator, Transformer}
@@ -89,9 +89,6 @@ rating-high v l e h =
     ap (λ k. ratingOf k (l .vn) (rated l) u) (ap (λ k. actsAs k (l .vn) u) e ∙ acts-high (l .vn) u h)
 
 -- by hand: 720 W at 7200.00 V are 720·100,000 grains at 5040.00 V, 70 per cent, and 720·100,000·503,999² / 720,000² at 0.01 V less
-abbrev motor : Load
-motor = record { node = 0; phase = OnA; kind = Power; vn = pos 720000; s = pair (pos 720) (pos 0) }
-
 by-hand-power : rating (record { a = pair (pos 504000) (pos 0); b = 0c; c = 0c } ∷ []) motor ≡ pair (pos 72000000) (pos 0)
 unfolding rating ratingOf actsAs voltageOn mix rated weight rndPair rnd near scaled square _+c_ csum
 by-hand-power = refl

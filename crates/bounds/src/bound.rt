@@ -1,18 +1,20 @@
-// How far a report may lie from the solution in floats. The study's numbers differ from that for three reasons only:
+// How far a report may lie from the solution in floats. The study's numbers differ from that for four reasons only:
 //
 // - a voltage or a current is rounded: re and im each move by at most 1/2, so a phasor by at most the root of 1/2. A voltage is rounded once on its way
 //   through a line or a regulator and twice through a transformer; a current once in a load, a regulator or a transformer;
 // - the whole root in a load of constant current is less than 1 below the root;
-// - the reported voltages are those before the last sweep, which moved re and im by at most tol, so a phasor by at most the root of 2 times tol.
+// - the reported voltages are those before the last sweep, which moved re and im by at most tol, so a phasor by at most the root of 2 times tol;
+// - a load of constant power may be below 70 per cent of vn, where it is an impedance, in the one and not in the other.
 //
 // The bound on a voltage or a current is the largest length to which these can add up. It is worked by the solver's sweeps, with lengths in the place of
-// phasors and no minus, so that nothing cancels (component.rt). The same holds of a load between two phases: the voltage across it is off by at most the sum of
-// what its two phases are off by, each of which the last sweep has moved, and what its current is off by counts in full, with no minus, on both phases.
+// phasors and no minus, so that nothing cancels (component.rt of crate floats). The same holds of a load between two phases: the voltage across it is off by at
+// most the sum of what its two phases are off by, each of which the last sweep has moved, and what its current is off by counts in full, with no minus, on both
+// phases.
 //
 // Where the voltage across a load is off by e, its current is off by its slope times e and its own rounding. With V the voltage across it in floats and W the
 // reported one, the slope is |S| / (|V|·|W|) for constant power, at most 2·|S| / (vn·(|V| + |W|)) for constant current, and |S| / vn² for constant impedance.
-// Below 70 per cent of vn constant power is an impedance. Where V and W both are that low, so is the slope. Where one of them is, the current is off by at most the
-// impedance's slope times e, and what the two currents at the other, as an impedance and at constant power, differ by.
+// Where V and W are both below 70 per cent of vn, the slope of constant power is that of an impedance. Where one of them is, the current is off by at most that
+// slope times e, and what the two currents, as an impedance and at constant power, differ by at the voltage that is not so low.
 // Where these sweeps settle, no report that follows documents 01 and 02 is further off: what a report is off by is at most one more sweep of itself. Where they
 // do not, as near a collapse of the voltage, there is no bound.
 use arrays::Threes;

@@ -21,7 +21,7 @@ use Rattle.integers.specs.Pairs.{0c}
 use Rattle.loads.specs.declared.Drawn.{Drawn}
 use Rattle.loads.specs.declared.Drawn.the-variants.{AtZeroVoltage, Taken, TooLarge}
 
--- 30: "load of kind P or I at zero voltage", of any row; else 31: "load current re or im beyond ±2,000,000", of any row
+-- 30: "load of kind P or I at zero voltage", of any row, by the kind as which it acts; else 31: "load current re or im beyond ±2,000,000", of any row
 abbrev pub stateOf : Bool → Bool → State
 stateOf true large = ZeroVoltage
 stateOf false true = Beyond

@@ -21,7 +21,7 @@ use integers::Pair;
 use integers::pairs;
 use loads::Drawn;
 
-// ZeroVoltage: a row is at zero voltage, document 01's refusal 30. Beyond: none is, and a row's current is beyond its limit, refusal 31.
+// ZeroVoltage: a row needs a voltage and has none, document 01's refusal 30. Beyond: none does, and a row's current is beyond its limit, refusal 31.
 pub enum State {
     Fine,
     Beyond,

@@ -1,4 +1,4 @@
--- Equations (01). V and I are lists by node number: V of node k, I of the branch that feeds it; at 0 stand the source's voltage and all current
+-- Equations (01, 02). V and I are lists by node number: V of node k, I of the branch that feeds it; at 0 stand the source's voltage and all current
 -- taken there. Assumes nothing.
 use mathlib.Core.Bool.{Bool, true, false, cond, not, _&&_}
 use mathlib.Core.List.{List, [], _∷_}

@@ -1,10 +1,10 @@
--- The low-voltage rule of 02 in other words: which current a P row takes, and that 30 is left to I rows. Assumes nothing.
+-- The low-voltage rule of 02 in other words: which current a P row takes, that I and Z rows are what they were, and that 30 is left to I rows. Assumes nothing.
 use mathlib.Core.Bool.{Bool, _&&_, cond, false, true}
 use mathlib.Core.List.{List, [], _∷_}
 use mathlib.Core.Path.{_≡_, ap, refl}
 use Prim.Native.Nat.{_*_, _<_, _≤_, ℕ}
 use native.Mathlib.Omega.{arith}
-use lib.IntN.{natAbs, ℤ}
+use lib.IntN.{natAbs, pos, ℤ}
 use borrow.Author.Tests.{le-ltb, leb-true, lt-ltb}
 use Rattle.answers.specs.Answers.{good}
 use Rattle.equations.specs.Equations.{actsAs, currentAt, kindAt, needsVoltage, rated, voltageOn, weight, zeroVoltage}
@@ -15,13 +15,35 @@ use Rattle.feeder.specs.RowFacts.{OfLoad, load-facts}
 use Rattle.feeder.specs.declared.Load.{Load}
 use Rattle.feeder.specs.declared.LoadKind.{LoadKind}
 use Rattle.feeder.specs.declared.LoadKind.the-variants.{Current, Impedance, Power}
+use Rattle.feeder.specs.declared.Terminals.the-variants.{OnA}
 use Rattle.feeder.specs.declared.Three.{Three}
 use Rattle.integers.specs.Bools.{both}
 use Rattle.integers.specs.Lists.{All, any}
-use Rattle.integers.specs.Pairs.{_·*_, inside, rndPair, square, within}
+use Rattle.integers.specs.Pairs.{_·*_, inside, rndPair, scaled, square, within}
+use Rattle.integers.specs.Rounding.{near, rnd}
 use Rattle.integers.specs.declared.Pair.{Pair}
 
--- ---- as what a P row acts
+-- ---- by hand: a P row of 720 W and 7200.00 V takes 720·100,000 / 504,000 at 5040.00 V, 70 per cent, and 720·100,000·503,999 / 720,000² at 0.01 V less
+abbrev pub motor : Load
+motor = record { node = 0; phase = OnA; kind = Power; vn = pos 720000; s = record { re = pos 720; im = pos 0 } }
+
+by-hand-high : currentAt motor (record { re = pos 504000; im = pos 0 }) ≡ record { re = pos 143; im = pos 0 }
+unfolding currentAt actsAs rated weight rndPair rnd near scaled square _·*_
+by-hand-high = refl
+
+by-hand-low : currentAt motor (record { re = pos 503999; im = pos 0 }) ≡ record { re = pos 70; im = pos 0 }
+unfolding currentAt actsAs rated weight rndPair rnd near scaled square _·*_
+by-hand-low = refl
+
+-- ---- as what a row acts
+pub acts-current : (vn : ℤ) (u : Pair) → actsAs Current vn u ≡ Current
+unfolding actsAs
+acts-current vn u = refl
+
+pub acts-impedance : (vn : ℤ) (u : Pair) → actsAs Impedance vn u ≡ Impedance
+unfolding actsAs
+acts-impedance vn u = refl
+
 pub acts-low : (vn : ℤ) (u : Pair) → 100 * square u < 49 * (natAbs vn * natAbs vn) → actsAs Power vn u ≡ Impedance
 unfolding actsAs
 acts-low vn u h = ap (λ (c : Bool). cond c Impedance Power) (lt-ltb _ _ h)
@@ -54,10 +76,10 @@ and-false : (b : Bool) → (b && false) ≡ false
 and-false true = refl
 and-false false = refl
 
--- zero voltage has no square
-square-none : (u : Pair) → within 0 u ≡ true → square u ≡ 0
+-- at zero voltage the square is 0
+square-zero : (u : Pair) → within 0 u ≡ true → square u ≡ 0
 unfolding within inside square
-square-none u e =
+square-zero u e =
     let h = both (inside 0 (u .re)) (inside 0 (u .im)) e in
     let a : natAbs (u .re) ≡ 0 = omega (arith, leb-true (natAbs (u .re)) 0 (h .0)) in
     let b : natAbs (u .im) ≡ 0 = omega (arith, leb-true (natAbs (u .im)) 0 (h .1)) in
@@ -70,7 +92,7 @@ needs-voltage Power vn u q = go (within 0 u) refl
   where
     -- at zero voltage it acts as an impedance
     go : (c : Bool) → within 0 u ≡ c → (needsVoltage (actsAs Power vn u) && c) ≡ false
-    go true e = rw (acts-low vn u (omega (arith, square-none u e, mul-pos (natAbs vn) (natAbs vn) q q))) refl
+    go true e = rw (acts-low vn u (omega (arith, square-zero u e, mul-pos (natAbs vn) (natAbs vn) q q))) refl
     go false e = and-false (needsVoltage (actsAs Power vn u))
 needs-voltage Current vn u q = refl
 needs-voltage Impedance vn u q = refl

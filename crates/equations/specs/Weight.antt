@@ -29,7 +29,7 @@ square-pos u e = go (natAbs (u .re)) (natAbs (u .im)) e
     go zero (suc b) e = omega arith
     go (suc a) b e = omega arith
 
--- 30 keeps the weight of P and I loads above 0, and 11 keeps vn there
+-- 30 keeps the weight of a row that acts as P or I above 0, and 11 keeps vn there
 pub weight-pos : (k : LoadKind) (vn : ℤ) (u : Pair) → 0 < natAbs vn → (needsVoltage k && within 0 u) ≡ false → 0 < weight k vn u
 unfolding weight
 weight-pos Power vn u q e = square-pos u e

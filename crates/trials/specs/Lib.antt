@@ -4,6 +4,7 @@ pub mod Values
 pub mod Roots
 pub mod Numbers
 pub mod Refusals
+pub mod ByHand
 pub mod TooLong
 pub mod StudyReports
 pub mod StudyLayout

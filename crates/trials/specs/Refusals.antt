@@ -1,4 +1,4 @@
--- One trial for each refusal of each call, the smallest of the base's cases; 9 is in TooLong. Assumes nothing.
+-- One trial for each refusal of each call, the smallest of the base's cases; 9 is in TooLong, and the check's 31 in ByHand. Assumes nothing.
 use mathlib.Core.Path.{_≡_, refl}
 use Rattle.answers.specs.declared.Refusal.the-variants.{Layout, OutOfLimit, UnknownFrom, SecondTo, NotReached, PhaseAbsent, NotZero, ZeroVoltage, LoadBeyond, CurrentBeyond, VoltageBeyond, NotSettled, BufferShort, ReportLayout, NameDiffers, SourceDiffers, CurrentDiffers, VoltageOff, TotalDiffers}
 use Rattle.text.specs.Text.{bytes}

@@ -1,5 +1,4 @@
 -- `drawn_by` meets its contract: 30 is tested before 31, and the weight is that of the kind as which the row acts. Assumes nothing.
-use mathlib.Core.Bool.{false}
 use mathlib.Core.Path.{_∙_, _≡_, ap, sym}
 use lib.IntN.{ℤ}
 use mir.Facts.{toZ-ofZ}
