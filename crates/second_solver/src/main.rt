@@ -1,6 +1,6 @@
 // A second solver for the study: each feeder of the file `cases` is studied, and solved again in floats with no rounding (crate floats). A line for each
-// feeder has the largest distance of its report from the solution in floats, for voltages and for currents, and the largest share of its bound that a
-// distance has at any node and phase. A feeder on which a distance is above its bound is OVER. One that the study leaves unsettled (34) is named as
+// feeder has the largest distance of its report from the solution in floats, for voltages and for currents, and the largest share of its bound (crate
+// bounds) that a distance has at any node and phase. A feeder on which a distance is above its bound is OVER. One that the study leaves unsettled (34) is named as
 // such, with what the floats do.
 ghost use Prim.Native.Nat.{_≤_};
 ghost use lib.ListN.{length};
