@@ -1,6 +1,8 @@
+import pathlib
 import random
 import re
 import subprocess
+import tempfile
 import unittest
 
 from flarecomb_tool import equations, explain, notes
@@ -196,9 +198,24 @@ class LowVoltage(unittest.TestCase):
         studied = equations.study(impedances)
         _, currents, trouble = equations.currents_at(powers, studied.voltages, 0)
         self.assertEqual((studied.currents, None), (currents, trouble))
+        self.assertLessEqual(equations.greatest_movement(powers, studied.voltages, equations.voltages_down(powers, currents, 0)[0]).size, 5)
         # with a limit below its sweeps, or another tol than the feeder's, it is no report of this feeder
         for row in (SOURCE_ROW.replace(",1,20", ",5,15"), SOURCE_ROW.replace(",1,20", ",1,100")):
             self.assertTrue(self.refused("N1,A,P,720000,500000,0", source=row)[-2].endswith("write Z."))
+
+    @needs_programs
+    def test_that_report_passes(self):
+        """The proved programs on the same feeder: as P it is 34, as Z there is a report, and the check passes that with P; with 259 kW it does not."""
+        for watts, answer in ((500000, b"pass\n"), (259000, b"refused 53 6\n")):
+            powers, impedances = (feeder_text(SOURCE_ROW.replace(",1,20", ",5,100"), [self.line()], [f"N1,A,{kind},720000,{watts},0"]).encode() for kind in "PZ")
+            run = lambda feeder: subprocess.run([PROGRAMS / "study"], input=feeder, capture_output=True, check=True).stdout
+            self.assertEqual(b"refused 34 100\n", run(powers))
+            with tempfile.TemporaryDirectory() as folder:
+                feeder, report = (pathlib.Path(folder) / name for name in ("feeder", "report"))
+                feeder.write_bytes(powers)
+                report.write_bytes(run(impedances))
+                ran = subprocess.run([PROGRAMS / "archive_check", feeder, report], capture_output=True, check=True)
+                self.assertEqual(answer, ran.stdout)
 
     def test_several_loads(self):
         load = "N1,A,P,720000,120000,0"
