@@ -70,6 +70,11 @@ def load_voltage(load, voltages):
     return total(scaled(sign, voltage) for sign, voltage in zip(LOAD_SIGNS[load.phase], voltages))
 
 
+def voltage_at(load, voltages):
+    """The load's voltage, from those of all nodes by their names."""
+    return load_voltage(load, voltages[load.node])
+
+
 def spread(load, current):
     """What the load's one current adds to the current of each phase: it goes out on the first phase and comes back on the second."""
     return [scaled(sign, current) for sign in LOAD_SIGNS[load.phase]]
@@ -185,7 +190,7 @@ def currents_at(feeder, voltages, sweep):
 
     Gives (load currents, currents, Trouble or None), the refusals 30 to 32 in their order.
     """
-    at = [load_voltage(load, voltages[load.node]) for load in feeder.loads]
+    at = [voltage_at(load, voltages) for load in feeder.loads]
     for load, voltage in zip(feeder.loads, at):
         if weight(load, voltage) == 0:
             return None, None, Trouble(30, sweep, load, load.phase, ZERO)
@@ -259,7 +264,7 @@ def powers(feeder, voltages, load_currents, currents):
     losses = {branch.to_node: loss(branch, currents[branch.to_node]) for branch in feeder.branches}
     source = total(times(one, conjugate(other)) for one, other in zip(feeder.source.voltage, currents[feeder.source.name]))
     drawn = total(
-        times(load_voltage(load, voltages[load.node]), conjugate(current)) for load, current in zip(feeder.loads, load_currents)
+        times(voltage_at(load, voltages), conjugate(current)) for load, current in zip(feeder.loads, load_currents)
     )
     return losses, source, drawn, total(losses.values())
 

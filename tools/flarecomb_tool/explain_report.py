@@ -149,7 +149,7 @@ def older_rule(feeder, report):
     """Sentences for 32, 53 and 55 where all values of the report agree if loads of kind P have constant power at every voltage, as they had before
     the low-voltage rule; [] where they do not, and where a load of kind P has voltage 0, which was refused with 30 then."""
     voltages = voltages_of(feeder, report)
-    power_loads = [(load, equations.load_voltage(load, voltages[load.node])) for load in feeder.loads if load.kind == "P"]
+    power_loads = [(load, equations.voltage_at(load, voltages)) for load in feeder.loads if load.kind == "P"]
     low = [load.line for load, voltage in power_loads if equations.is_low(load, voltage)]
     # With a vn of 1 cV every voltage but 0 is above 70 per cent.
     before = feeder._replace(loads=[load._replace(vn=1) if load.kind == "P" else load for load in feeder.loads])

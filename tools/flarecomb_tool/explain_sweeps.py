@@ -19,11 +19,6 @@ def _size(pair):
     return nearest_root(square(pair))
 
 
-def _at(load, voltages):
-    """The load's voltage, from those of all nodes."""
-    return equations.load_voltage(load, voltages[load.node])
-
-
 def _source_said(feeder):
     """The source's voltages in V, with a word on the unit where they do not fit the rest."""
     sizes = [_size(pair) for pair in feeder.source.voltage]
@@ -156,7 +151,7 @@ def _to_and_fro(feeder, used):
     Pairs of a load and the last sweep in which it was on the other side than in the sweep before."""
     found = []
     for load in feeder.loads:
-        low = [equations.is_low(load, _at(load, voltages)) for voltages in used[-SWEEPS_LOOKED_AT:]]
+        low = [equations.is_low(load, equations.voltage_at(load, voltages)) for voltages in used[-SWEEPS_LOOKED_AT:]]
         crossed = [place for place in range(1, len(low)) if low[place] != low[place - 1]]
         if len(crossed) > 1:
             found.append((load, len(used) - len(low) + crossed[-1] + 1))
@@ -166,7 +161,7 @@ def _to_and_fro(feeder, used):
 def _to_and_fro_said(crossing, used):
     """Which loads go to and fro, the first with its voltage on both sides."""
     load, sweep = crossing[0]
-    before, after = (per_cent_of_rated(load, _at(load, used[place - 1])) for place in (sweep - 1, sweep))
+    before, after = (per_cent_of_rated(load, equations.voltage_at(load, used[place - 1])) for place in (sweep - 1, sweep))
     others = [other.line for other, _ in crossing[1:]]
     more = f" So do the loads in {lines_said(others)}." if len(others) > 1 else f" So does the load in line {others[0]}." if others else ""
     return (f"{_load_said(load)} goes to and fro across 70 per cent of vn, below which it acts as Z: "
@@ -194,8 +189,8 @@ def _as_impedances(feeder, crossing):
     first, reported = crossing[0][0], studied.used[sweeps - 1]
     rows = "the row" if len(lines) == 1 else "these rows"
     said = (f"Look at why the voltage is so low: impedances, loads, taps and vn. With {rows} as Z the study takes {counted(sweeps, 'sweep')}{tol}, "
-            f"and line {first.line} has {per_cent_of_rated(first, _at(first, reported))} per cent of vn")
-    if not all(equations.is_low(load, _at(load, reported)) for load, _ in crossing):
+            f"and line {first.line} has {per_cent_of_rated(first, equations.voltage_at(first, reported))} per cent of vn")
+    if not all(equations.is_low(load, equations.voltage_at(load, reported)) for load, _ in crossing):
         return [said + (": there a P row is constant power." if len(lines) == 1 else ".")]
     # Below 70 per cent the rows take the same currents as P, so that the report is one of the feeder as it is.
     passes = f" The check passes that report with {rows} as P too." if not tol and sweeps <= feeder.source.sweeps else ""
@@ -250,7 +245,7 @@ def study_fault(feeder, number, value):
     if number == 30:
         return _zero_voltage(feeder, trouble, False)
     if number == 31:
-        return _load_current(feeder, trouble, _at(trouble.row, studied.voltages))
+        return _load_current(feeder, trouble, equations.voltage_at(trouble.row, studied.voltages))
     if number == 32:
         return _branch_current(feeder, trouble)
     if number == 33:
@@ -266,5 +261,5 @@ def check_fault(feeder, voltages, number):
     if number == 30:
         return _zero_voltage(feeder, trouble, True)
     if number == 31:
-        return _load_current(feeder, trouble, _at(trouble.row, voltages))[:2]
+        return _load_current(feeder, trouble, equations.voltage_at(trouble.row, voltages))[:2]
     return _branch_current(feeder, trouble)[:2]

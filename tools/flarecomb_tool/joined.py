@@ -99,7 +99,7 @@ class Joined:
         self.loads = [self.load_flow(load) for load in feeder.loads]
 
     def load_flow(self, load):
-        voltage = equations.load_voltage(load, self.voltage[load.node])
+        voltage = equations.voltage_at(load, self.voltage)
         current = power.load_current(load, voltage)
         drawn = None if current is None else times(voltage, conjugate(current))
         return LoadFlow(load, voltage, equations.acts_as(load, voltage), current, power.load_rating(load, voltage), drawn)

@@ -13,6 +13,11 @@ from tests.mistakes_table import MISTAKES
 from tests.support import EXAMPLES, MISTAKES_FOLDER, PROGRAMS, feeder_bytes, needs_programs, report_bytes
 
 
+def proved_study(data):
+    """What the program study writes for a feeder given as bytes."""
+    return subprocess.run([PROGRAMS / "study"], input=data, capture_output=True, check=True).stdout
+
+
 def explained(mistake):
     feeder = feeder_bytes(mistake.feeder)
     if mistake.report is None:
@@ -80,7 +85,7 @@ class Advice(unittest.TestCase):
     """What an explanation says would help does help, by the proved study."""
 
     def study(self, data):
-        return subprocess.run([PROGRAMS / "study"], input=data, capture_output=True, check=True).stdout.decode()
+        return proved_study(data).decode()
 
     def advised(self, pattern):
         """(bytes of the feeder, what the pattern found) for each mistake of the study whose explanation has the pattern."""
@@ -208,12 +213,11 @@ class LowVoltage(unittest.TestCase):
         """The proved programs on the same feeder: as P it is 34, as Z there is a report, and the check passes that with P; with 259 kW it does not."""
         for watts, answer in ((500000, b"pass\n"), (259000, b"refused 53 6\n")):
             powers, impedances = (feeder_text(SOURCE_ROW.replace(",1,20", ",5,100"), [self.line()], [f"N1,A,{kind},720000,{watts},0"]).encode() for kind in "PZ")
-            run = lambda feeder: subprocess.run([PROGRAMS / "study"], input=feeder, capture_output=True, check=True).stdout
-            self.assertEqual(b"refused 34 100\n", run(powers))
+            self.assertEqual(b"refused 34 100\n", proved_study(powers))
             with tempfile.TemporaryDirectory() as folder:
                 feeder, report = (pathlib.Path(folder) / name for name in ("feeder", "report"))
                 feeder.write_bytes(powers)
-                report.write_bytes(run(impedances))
+                report.write_bytes(proved_study(impedances))
                 ran = subprocess.run([PROGRAMS / "archive_check", feeder, report], capture_output=True, check=True)
                 self.assertEqual(answer, ran.stdout)
 
