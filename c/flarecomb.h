@@ -40,8 +40,8 @@ extern "C" {
 #define FLARECOMB_SWEEPS(answer) ((uint32_t)((uint64_t)(answer) >> 48))
 
 /*
- * The refusals, by NUMBER; docs/USING.md says what to do about each. Behind each stands its VALUE. Lines count from 1, empty ones too.
- * The study answers 9 to 40, and the check 9 to 32 and 50 to 55.
+ * The refusals, by NUMBER; docs/USING.md says what to do about each. Behind each stands its VALUE. Lines count from 1, empty ones too; where several rows have the
+ * same fault, the first of their lines is told. The study answers 9 to 40, and the check 9 to 32 and 50 to 55.
  */
 enum flarecomb_refusal {
     FLARECOMB_TOO_LONG = 9,         /* 0: the feeder or the report has over 65,536 bytes */
@@ -62,7 +62,7 @@ enum flarecomb_refusal {
     FLARECOMB_NAME_DIFFERS = 51,    /* the report's line with a name that is not the feeder's at that place */
     FLARECOMB_SOURCE_DIFFERS = 52,  /* the report's line with another source voltage, or a voltage on an absent phase */
     FLARECOMB_CURRENT_DIFFERS = 53, /* the report's line with a current that does not follow from the load currents */
-    FLARECOMB_VOLTAGE_OFF = 54,     /* the report's line with a voltage off by more than tol */
+    FLARECOMB_VOLTAGE_OFF = 54,     /* the report's line with a voltage off by more than tol, at a node that is fed through none such */
     FLARECOMB_TOTAL_DIFFERS = 55    /* 0: a loss or a total differs */
 };
 

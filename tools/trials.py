@@ -7,6 +7,7 @@
                   written here
   StudyReports, StudyLayout, StudyRefusals, CheckPasses, CheckRefusals
                   of each file of cases every tenth case whose files are under 3,000 bytes together, spread over the kinds of answer
+  SeveralRows     of S-4's cases some in which several rows have the fault, at least one for each number that comes with a line but 10
   Accounts        the power account's numbers for every tenth passing case of each file, worked out here a second time from documents 01 and 02;
                   where the file has the account's numbers, they must be the same for every case
   Roots           every case of the whole root and its binary digits, in one table
@@ -28,6 +29,11 @@ CALLS = {'study': [n for n in REFUSALS if n <= 40], 'check': [n for n in REFUSAL
 NO_VALUE = (50, 55)
 LARGE = 1000000
 STEP = 10
+# S-4's cases in which several rows have the fault. Of 11 these are the source row and a branch, and a branch and two loads; of 22 a row that is fed from a
+# circle, and behind it the circle; of 23 a branch and a load; of 51 a row of each table. Of 54 there are two, and before them a row that is off and does
+# not count: it is fed by one of the two, or by a node within tol that one of the two feeds.
+SEVERAL_ROWS = ('00013-11-source-row', '00015-11-branch-before-load', '00003-20-13', '00004-21-13', '00018-22-tail-first', '00017-23-branch-before-load',
+                '00002-24-13', '00029-51-0-13-10', '00030-52-0', '00032-53-0', '00052-54-1-N1N3N4', '00055-54-1-N7N0N1')
 
 
 # ---- the cases
@@ -263,6 +269,11 @@ def main():
     vectors('StudyRefusals', "the study's other refusals", lambda call, answer, n: call == 'study' and n > 10)
     vectors('CheckPasses', 'reports that the check passes', lambda call, answer, n: answer == 'pass')
     vectors('CheckRefusals', 'feeders and reports that the check refuses', lambda call, answer, n: call == 'check' and answer == 'refuse')
+    several = [(number, c) for number, ordered in enumerate(answered) for c in ordered if c.get('request') == 'S-4' and c['name'] in SEVERAL_ROWS]
+    several.sort(key=lambda one: SEVERAL_ROWS.index(one[1]['name']))
+    assert len(several) == len(SEVERAL_ROWS), several
+    module('SeveralRows', 'Vectors: several rows have the fault, and the line is that of the first.',
+           [theorem(named('v', number, c), c) for number, c in several])
 
     known = [c for ordered in files for c in ordered if c['call'] == 'account']
     for case in known:

@@ -1,12 +1,13 @@
-//! A seeded generator of feeders and reports: sound, mangled, at the limits, at low voltage, and edited.
+//! A seeded generator of feeders and reports: sound, mangled, at the limits, at low voltage, with one fault in several rows,
+//! and edited.
 
-use crate::equations::{Pair, Phases, LIMIT, NONE, ZERO};
+use crate::equations::{drop, voltage, Pair, Phases, LIMIT, NONE, ZERO};
 use crate::feeder::{
     read_feeder, Feeder, Kind, Load, BRANCH_HEADER, LOAD_HEADER, MAX_BRANCHES, MAX_LOADS, SOURCE_HEADER,
 };
 use crate::ladder::{settle, Currents, Powers};
 use crate::place::Place;
-use crate::report::write_rows;
+use crate::report::{line_of_branch, line_of_node, write_rows};
 use crate::MAX_FILE;
 
 /// Splitmix64.
@@ -1027,9 +1028,153 @@ fn to_zero(random: &mut Random) -> Draft {
     draft
 }
 
+/// Feeders with one fault, 11 or one of 20 to 24, in two rows or more; now and then another fault stands beside it.
+pub fn several_faults(random: &mut Random) -> Draft {
+    const NUMBERS: [u32; 7] = [11, 11, 20, 21, 22, 23, 24];
+    let most = *random.pick(&[4, 4, 8, 8, 20, MAX_BRANCHES as i64]);
+    let branches = random.between(2, most) as usize;
+    let loads = random.between(1, (most * 3 / 2).min(MAX_LOADS as i64)) as usize;
+    let mut draft = sound(random, branches, loads, Mix::Mixed);
+    if random.once_in(2) {
+        between_phases(random, &mut draft, 2);
+    }
+    let number = *random.pick(&NUMBERS);
+    for _ in 0..random.between(2, 5) {
+        add_fault(random, &mut draft, number);
+    }
+    if random.once_in(3) {
+        let other = *random.pick(&NUMBERS);
+        add_fault(random, &mut draft, other);
+    }
+    draft
+}
+
+/// Puts a fault of this number into a row, and none of a lower number as a rule.
+fn add_fault(random: &mut Random, draft: &mut Draft, number: u32) {
+    let branch = random.below(draft.branches.len());
+    let load = random.below(draft.loads.len());
+    match number {
+        11 => match random.below(8) {
+            0 => {
+                let (column, value) = *random.pick(&[
+                    (1, LIMIT + 1),
+                    (4, -LIMIT - 1),
+                    (6, 3 * LIMIT),
+                    (7, -1),
+                    (7, 1_001),
+                    (8, 0),
+                    (8, 101),
+                ]);
+                draft.source[column] = value.to_string();
+            }
+            1 if random.once_in(3) => overfill(random, draft),
+            1..=4 => {
+                let row = &mut draft.branches[branch];
+                let (columns, beyond) = match row[3].as_str() {
+                    "L" => (4..16, [100_000_001, -100_000_001]),
+                    "R" => (4..7, [17, -17]),
+                    _ => (4..6, [0, 1_000_001]),
+                };
+                row[random.between(columns.start, columns.end - 1) as usize] = random.pick(&beyond).to_string();
+            }
+            _ => {
+                let row = &mut draft.loads[load];
+                let most = if row[1].len() == 2 { 2 * LIMIT } else { LIMIT };
+                let (column, value) = *random.pick(&[(3, 0), (3, most + 1), (4, 3_000_001), (5, -3_000_001)]);
+                row[column] = value.to_string();
+            }
+        },
+        20 => draft.branches[branch][0] = random.pick(&["NOBODY", "0", "Q", "ABC"]).to_string(),
+        21 => {
+            // A row more, so that no row below it loses its node.
+            if draft.branches.len() < MAX_BRANCHES {
+                let mut row = draft.branches[branch].clone();
+                if random.once_in(3) {
+                    row[1] = draft.source[0].clone();
+                }
+                let at = random.below(draft.branches.len() + 1);
+                draft.branches.insert(at, row);
+            }
+        }
+        22 => {
+            // Feeds the row from a node behind it, or from its own.
+            let mut from = draft.branches[branch][1].clone();
+            for _ in 0..random.below(4) {
+                let behind: Vec<&Vec<String>> = draft.branches.iter().filter(|row| row[0] == from).collect();
+                if !behind.is_empty() {
+                    from = random.pick(&behind)[1].clone();
+                }
+            }
+            draft.branches[branch][0] = from;
+        }
+        23 => match random.below(6) {
+            0 => {
+                let row = &mut draft.branches[branch];
+                row[2] = random.pick(&["A", "B", "C", "AB", "AC", "BC"]).to_string();
+                row[3] = random.pick(&["Y", "D"]).to_string();
+                row[4..].fill("1".to_string());
+            }
+            // What the row feeds may lose its phases.
+            1 | 2 => draft.branches[branch][2] = random.pick(&["A", "B", "C"]).to_string(),
+            3 => draft.branches[branch][2] = "ABC".to_string(),
+            4 => draft.loads[load][0] = "NOBODY".to_string(),
+            _ => {
+                // Of the loads whose node lacks a phase, if there are any.
+                let lacks =
+                    |row: &Vec<String>| draft.branches.iter().any(|branch| branch[1] == row[0] && branch[2] != "ABC");
+                let few: Vec<usize> = (0..draft.loads.len()).filter(|row| lacks(&draft.loads[*row])).collect();
+                let row = if few.is_empty() { load } else { *random.pick(&few) };
+                draft.loads[row][1] = random.pick(&["A", "B", "C", "AB", "BC", "CA"]).to_string();
+            }
+        },
+        _ => {
+            let row = &mut draft.branches[branch];
+            if row[3] == "L" && row[2] == "ABC" {
+                // No value of such a row is due 0.
+                row[3] = "R".to_string();
+                row[4..].fill("0".to_string());
+            }
+            let present = |word: &str| word.chars().all(|letter| row[2].contains(letter));
+            let due: Vec<usize> = match row[3].as_str() {
+                "L" => (4..16).filter(|k| !present(["A", "AB", "AC", "B", "BC", "C"][(k - 4) / 2])).collect(),
+                "R" => (4..16).filter(|k| *k > 6 || !present(["A", "B", "C"][k - 4])).collect(),
+                _ => (12..16).collect(),
+            };
+            row[*random.pick(&due)] = random.pick(&["1", "-1", "16"]).to_string();
+        }
+    }
+}
+
+/// Adds rows until one to four are past the most.
+fn overfill(random: &mut Random, draft: &mut Draft) {
+    let past = random.between(1, 4) as usize;
+    if random.once_in(2) {
+        while draft.loads.len() < MAX_LOADS + past {
+            let row = random.pick(&draft.loads).clone();
+            draft.loads.push(row);
+        }
+    } else {
+        while draft.branches.len() < MAX_BRANCHES + past {
+            let to = format!("PAST{}", draft.branches.len());
+            draft.branches.push(row![draft.source[0], to, "ABC", "L", 0, 0, 0, 0, 0, 0, 0, 0, 0, 0, 0, 0]);
+        }
+    }
+}
+
+/// A sound feeder of a few branches whose rows stand in no order: what is fed through a node stands before it or behind it.
+pub fn unordered(random: &mut Random) -> Draft {
+    let (branches, loads) = (random.between(3, 12) as usize, random.below(9));
+    let mut draft = sound(random, branches, loads, Mix::Mixed);
+    if random.once_in(2) {
+        between_phases(random, &mut draft, 1);
+    }
+    random.shuffle(&mut draft.branches);
+    draft
+}
+
 /// Any feeder file.
 pub fn any_feeder(random: &mut Random) -> Vec<u8> {
-    match random.below(15) {
+    match random.below(20) {
         0..=2 => some_sound(random).text(),
         3 | 4 => hard(random).text(),
         5 | 6 => wrong(random).text(),
@@ -1047,7 +1192,9 @@ pub fn any_feeder(random: &mut Random) -> Vec<u8> {
                 text
             }
         }
-        11..=13 => low_voltages(random).text(),
+        11..=14 => low_voltages(random).text(),
+        15 | 16 => several_faults(random).text(),
+        17 | 18 => unordered(random).text(),
         _ => {
             let text = boundary(random);
             if text.len() < 5_000 {
@@ -1071,7 +1218,9 @@ pub fn any_report(random: &mut Random, feeder: &[u8]) -> Vec<u8> {
         };
     };
     let own = forge(random, &read, 0);
-    match random.below(12) {
+    // The last two kinds, with a fault in several rows, are for feeders that have several.
+    let kinds = if read.branches.len() < 3 { 12 } else { 20 };
+    match random.below(kinds) {
         0 | 1 => own,
         2 | 3 => mangle(random, &own),
         4 | 5 => edit_digit(random, &own),
@@ -1084,6 +1233,8 @@ pub fn any_report(random: &mut Random, feeder: &[u8]) -> Vec<u8> {
                 long
             }
         },
+        12..=15 => edit_several(random, &read, &own),
+        16..=19 => forge_off(random, &read),
         _ => {
             let moves = random.between(1, 3) as usize;
             forge(random, &read, moves)
@@ -1150,6 +1301,97 @@ pub fn forge(random: &mut Random, feeder: &Feeder, moves: usize) -> Vec<u8> {
     write_rows(feeder, &voltages, &currents.nodes[1..], &powers, sweeps)
 }
 
+/// A report whose voltages are off at nodes of our choosing and by as much as we choose, and are the worked ones elsewhere, or
+/// within tol of them: reported are the worked voltages moved by a row of their own, worked anew until they stay.
+fn forge_off(random: &mut Random, feeder: &Feeder) -> Vec<u8> {
+    let moved = some_moves(random, feeder);
+    let (mut voltages, sweeps) = match settle(feeder) {
+        Ok(settled) => (settled.voltages, i64::from(settled.sweeps)),
+        Err(_) => (downward_clamped(feeder), 1),
+    };
+    let mut currents = Currents::of(feeder);
+    for _ in 0..30 {
+        if currents.work(feeder, &voltages).is_err() {
+            break;
+        }
+        let before = std::mem::replace(&mut voltages, worked_and_moved(feeder, &currents, &moved));
+        if before == voltages {
+            break;
+        }
+    }
+    if currents.work(feeder, &voltages).is_err() {
+        // The check will meet 30 to 32 before it compares currents.
+        currents = Currents::of(feeder);
+    }
+    let powers = currents.powers(feeder, &voltages);
+    write_rows(feeder, &voltages, &currents.nodes[1..], &powers, sweeps)
+}
+
+/// The voltages worked downward from the source with these currents, each then moved, and held within the limit.
+fn worked_and_moved(feeder: &Feeder, currents: &Currents, moved: &[Phases]) -> Vec<Phases> {
+    let mut worked = vec![feeder.source_v; moved.len()];
+    for &row in &feeder.order {
+        let branch = &feeder.branches[row];
+        let v = voltage(branch, &worked[branch.parent], &drop(&branch.device, &currents.nodes[row + 1]));
+        worked[row + 1] = v.map(held);
+    }
+    worked.iter().zip(moved).map(|(v, by)| std::array::from_fn(|k| held(v[k] + by[k]))).collect()
+}
+
+/// By how much the voltages of all nodes are moved. At some of them that is more than tol: any few; nodes of one way to the
+/// source, with others between them that are within tol; or a node and all that are fed through it.
+fn some_moves(random: &mut Random, feeder: &Feeder) -> Vec<Phases> {
+    let rows = feeder.branches.len();
+    let mut moved = vec![NONE; rows + 1];
+    if random.once_in(2) {
+        for (node, moved) in moved.iter_mut().enumerate().skip(1) {
+            let by = random.between(-feeder.tol, feeder.tol);
+            move_one(random, feeder, node, by, moved);
+        }
+    }
+    // The way of one of a few nodes that has most nodes on it, from the node upward.
+    let way = (0..4).map(|_| way_of(feeder, 1 + random.below(rows))).max_by_key(Vec::len).unwrap_or_default();
+    let mut chosen: Vec<usize> = Vec::new();
+    match random.below(4) {
+        0 => chosen.extend((0..random.between(1, 5)).map(|_| 1 + random.below(rows))),
+        1 => {
+            let top = *random.pick(&way);
+            chosen.extend((1..=rows).filter(|node| way_of(feeder, *node).contains(&top)));
+        }
+        _ => {
+            chosen.extend(way.iter().filter(|_| random.once_in(2)));
+            // A second place off, on another way as a rule.
+            if random.once_in(2) {
+                chosen.push(1 + random.below(rows));
+            }
+        }
+    }
+    let beyond = feeder.tol + *random.pick(&[1, 1, 2, 100, 5_000]);
+    for node in chosen {
+        let by = if random.once_in(2) { beyond } else { -beyond };
+        moved[node] = NONE;
+        move_one(random, feeder, node, by, &mut moved[node]);
+    }
+    moved
+}
+
+/// The nodes on the way from this one up to the source, itself the first and the source left out.
+fn way_of(feeder: &Feeder, node: usize) -> Vec<usize> {
+    let above = |node: &usize| Some(feeder.branches[*node - 1].parent).filter(|parent| *parent > 0);
+    std::iter::successors(Some(node), above).collect()
+}
+
+/// Moves re or im of one phase that the node has.
+fn move_one(random: &mut Random, feeder: &Feeder, node: usize, by: i64, moved: &mut Phases) {
+    let present: Vec<usize> = (0..3).filter(|k| feeder.phases(node) & 1 << k != 0).collect();
+    let v = &mut moved[*random.pick(&present)];
+    *if random.once_in(2) { &mut v.re } else { &mut v.im } += by;
+}
+
+fn held(v: Pair) -> Pair {
+    Pair { re: v.re.clamp(-LIMIT, LIMIT), im: v.im.clamp(-LIMIT, LIMIT) }
+}
+
 /// Moves both phases that the load stands between: apart, together, or to no difference.
 fn move_both(random: &mut Random, feeder: &Feeder, load: &Load, v: &mut Phases) {
     let tol = feeder.tol;
@@ -1159,7 +1401,6 @@ fn move_both(random: &mut Random, feeder: &Feeder, load: &Load, v: &mut Phases) 
         1 => Pair { re: 0, im: by },
         _ => Pair { re: by, im: -by },
     };
-    let held = |v: Pair| Pair { re: v.re.clamp(-LIMIT, LIMIT), im: v.im.clamp(-LIMIT, LIMIT) };
     let together = random.once_in(3);
     let alike = random.once_in(8);
     let mut first = None;
@@ -1190,8 +1431,8 @@ fn downward_clamped(feeder: &Feeder) -> Vec<Phases> {
     let mut voltages = vec![feeder.source_v; feeder.branches.len() + 1];
     for &row in &feeder.order {
         let branch = &feeder.branches[row];
-        let v = crate::equations::voltage(branch, &voltages[branch.parent], &NONE);
-        voltages[row + 1] = v.map(|v| Pair { re: v.re.clamp(-LIMIT, LIMIT), im: v.im.clamp(-LIMIT, LIMIT) });
+        let v = voltage(branch, &voltages[branch.parent], &NONE);
+        voltages[row + 1] = v.map(held);
     }
     voltages
 }
@@ -1219,6 +1460,74 @@ fn edit_names(random: &mut Random, text: &[u8]) -> Vec<u8> {
     })
 }
 
+/// Puts one fault of 51 to 53 into two rows or more of the report; now and then another of them beside it.
+fn edit_several(random: &mut Random, feeder: &Feeder, text: &[u8]) -> Vec<u8> {
+    edit_lines(random, text, |random, lines| {
+        let number = random.between(51, 53);
+        for _ in 0..random.between(2, 5) {
+            edit_row(random, feeder, lines, number);
+        }
+        if random.once_in(3) {
+            let other = random.between(51, 53);
+            edit_row(random, feeder, lines, other);
+        }
+    })
+}
+
+/// Puts a fault of this number into a row of the report that has one, and none of a lower number.
+fn edit_row(random: &mut Random, feeder: &Feeder, lines: &mut [Vec<u8>], number: i64) {
+    let rows = feeder.branches.len();
+    // The places of the rows among the lines, which are counted from 0.
+    let at_node = |node: usize| line_of_node(node) as usize - 1;
+    let at_branch = |row: usize| line_of_branch(feeder, row) as usize - 1;
+    let by_one = |value: &str, by: i64| {
+        let value = value.parse().unwrap_or(0i64);
+        (if (value + by).abs() > LIMIT { value - by } else { value + by }).to_string()
+    };
+    let by = *random.pick(&[1, -1]);
+    match number {
+        51 => {
+            let any = random.below(2 * rows + 1);
+            let (at, column) =
+                if any <= rows { (at_node(any), 0) } else { (at_branch(any - rows - 1), random.below(2)) };
+            let other = at_node(random.below(rows + 1));
+            let name = if random.once_in(2) {
+                random.pick(&["X", "S", "N1", "NOBODY"]).to_string()
+            } else {
+                field(&lines[other], 0)
+            };
+            if random.once_in(4) && any <= rows {
+                // Two rows exchanged, so that each has the other's name.
+                lines.swap(at, other);
+            } else {
+                edit_field(&mut lines[at], column, |_| name);
+            }
+        }
+        52 => {
+            let few: Vec<usize> = (0..=rows).filter(|node| *node == 0 || feeder.phases(*node) != 7).collect();
+            let node = *random.pick(&few);
+            let phases: Vec<usize> = (0..3).filter(|k| node == 0 || feeder.phases(node) & 1 << k == 0).collect();
+            let column = 1 + 2 * random.pick(&phases) + random.below(2);
+            edit_field(&mut lines[at_node(node)], column, |value| by_one(value, by));
+        }
+        _ => {
+            let at = at_branch(random.below(rows));
+            edit_field(&mut lines[at], 2 + random.below(6), |value| by_one(value, by));
+        }
+    }
+}
+
+/// The field of a line in this column.
+fn field(line: &[u8], column: usize) -> String {
+    String::from_utf8_lossy(line.split(|b| *b == b',').nth(column).unwrap_or_default()).into_owned()
+}
+
+fn edit_field(line: &mut Vec<u8>, column: usize, edit: impl FnOnce(&str) -> String) {
+    let mut fields: Vec<Vec<u8>> = line.split(|b| *b == b',').map(<[u8]>::to_vec).collect();
+    fields[column] = edit(&field(line, column)).into_bytes();
+    *line = fields.join(&b',');
+}
+
 /// Changes the number of sweeps.
 fn edit_sweeps(random: &mut Random, text: &[u8]) -> Vec<u8> {
     edit_lines(random, text, |random, lines| {
@@ -1232,6 +1541,7 @@ fn edit_sweeps(random: &mut Random, text: &[u8]) -> Vec<u8> {
 #[cfg(test)]
 mod tests {
     use super::*;
+    use crate::faults::{lines_with, passed_over};
     use crate::ladder::settle_watched;
     use crate::report::read_report;
     use crate::{check, parts, study, Answer};
@@ -1367,7 +1677,7 @@ mod tests {
         // How often each of these is met: P rows with some power in the study's reports, the study's answers where a P row
         // counts as an impedance in a sweep, and the check's where one does so at the reported voltages.
         let mut met = std::collections::BTreeMap::<_, usize>::new();
-        for seed in 0..3000 {
+        for seed in 0..6000 {
             let mut random = Random::new(seed);
             let text = any_feeder(&mut random);
             let report = any_report(&mut random, &text);
@@ -1413,6 +1723,35 @@ mod tests {
             }
         }
         assert_eq!(met.len(), 28, "{met:#?}");
+        assert!(met.values().all(|count| *count >= 10), "{met:#?}");
+    }
+
+    #[test]
+    fn several_faults_are_drawn() {
+        // How often each of these is met: an answer where two rows or more have the fault, and 54 with a row that it passes
+        // over, by where that row stands. The line answered is the first in each of them.
+        let mut met = std::collections::BTreeMap::<_, usize>::new();
+        let mut out = vec![0; MAX_FILE];
+        for seed in 0..3000 {
+            let mut random = Random::new(seed);
+            let feeder = any_feeder(&mut random);
+            let report = any_report(&mut random, &feeder);
+            for (call, answer) in [("study", study(&feeder, &mut out)), ("check", check(&feeder, &report))] {
+                let Answer::Refused { number, value } = answer else { continue };
+                let Some(lines) = lines_with(number, &feeder, &report) else { continue };
+                assert_eq!(lines.first(), Some(&value), "{call} {number}, seed {seed}");
+                if lines.len() > 1 {
+                    *met.entry(format!("{call} {number}")).or_default() += 1;
+                }
+                for row in if number == 54 { passed_over(&feeder, &report) } else { Vec::new() } {
+                    let place = if row.line < value { "before" } else { "behind" };
+                    let above = if row.parent_within { "within tol" } else { "off" };
+                    *met.entry(format!("passed over {place}, the node above {above}")).or_default() += 1;
+                }
+            }
+        }
+        // 11 and 20 to 24 of both calls, 51 to 54, and four kinds that are passed over.
+        assert_eq!(met.len(), 12 + 4 + 4, "{met:#?}");
         assert!(met.values().all(|count| *count >= 10), "{met:#?}");
     }
 

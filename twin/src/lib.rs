@@ -1,4 +1,4 @@
-//! A second study and check for radial feeders, written from documents 01 and 02 (S-1, S-2 and S-3) and
+//! A second study and check for radial feeders, written from documents 01 and 02 (S-1 to S-4) and
 //! docs/DECISIONS.md. Nothing here is proved.
 //!
 //! It is there to be compared with the proved programs (`bin/fuzz`) and to measure them against (`bin/bench`).
@@ -6,6 +6,7 @@
 pub mod account;
 pub mod check;
 pub mod equations;
+pub mod faults;
 pub mod feeder;
 pub mod generate;
 pub mod ladder;

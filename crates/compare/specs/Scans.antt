@@ -7,7 +7,7 @@ use native.Mathlib.Omega.{arith}
 use lib.ListN.{getD, length}
 use Rattle.answers.specs.declared.Found.the-variants.{At}
 use Rattle.feeder.specs.Feeder.{firstRow}
-use Rattle.integers.specs.Bools.{both, joined, same?}
+use Rattle.integers.specs.Bools.{and-false, both, joined, same?}
 use Rattle.integers.specs.Lists.{all, count, tab}
 use Rattle.integers.specs.PairLaws.{pair-eq, same-true, true-same}
 use Rattle.integers.specs.Pairs.{same}
@@ -64,13 +64,9 @@ pub not-all : (p : ℕ → Bool) (n k : ℕ) → 0 < k → k < suc n → p k ≡
 unfolding all count tab
 not-all p n k z h e = go 1 n (omega arith) (omega arith)
   where
-    rest : (b : Bool) → (b && false) ≡ false
-    rest true = refl
-    rest false = refl
-
     go : (a m : ℕ) → a ≤ k → k < a + m → all p (tab (λ i. i) a m) ≡ false
     go a zero s q = absurd (omega arith)
-    go a (suc m) s q = same? a k (λ w. rw (w, e)) (λ ne. rw (go (a + 1) m (omega arith) (omega arith)) (rest (p a)))
+    go a (suc m) s q = same? a k (λ w. rw (w, e)) (λ ne. rw (go (a + 1) m (omega arith) (omega arith)) (and-false (p a)))
 
 -- ---- truth values that say the same
 one-truth : (a b : Bool) → (a ≡ true → b ≡ true) → (b ≡ true → a ≡ true) → a ≡ b

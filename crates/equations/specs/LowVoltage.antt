@@ -17,7 +17,7 @@ use Rattle.feeder.specs.declared.LoadKind.{LoadKind}
 use Rattle.feeder.specs.declared.LoadKind.the-variants.{Current, Impedance, Power}
 use Rattle.feeder.specs.declared.Terminals.the-variants.{OnA}
 use Rattle.feeder.specs.declared.Three.{Three}
-use Rattle.integers.specs.Bools.{both}
+use Rattle.integers.specs.Bools.{and-false, both}
 use Rattle.integers.specs.Lists.{All, any}
 use Rattle.integers.specs.Pairs.{_·*_, inside, rndPair, scaled, square, within}
 use Rattle.integers.specs.Rounding.{near, rnd}
@@ -71,10 +71,6 @@ abbrev pub isCurrent : LoadKind → Bool
 isCurrent Power = false
 isCurrent Current = true
 isCurrent Impedance = false
-
-and-false : (b : Bool) → (b && false) ≡ false
-and-false true = refl
-and-false false = refl
 
 -- at zero voltage the square is 0
 square-zero : (u : Pair) → within 0 u ≡ true → square u ≡ 0

@@ -34,7 +34,8 @@ use Rattle.integers.specs.Pairs.{0c, inside}
 use Rattle.integers.specs.declared.Pair.{Pair}
 use Rattle.text.specs.Lines.{nth}
 
--- the first line with a fault ("any one such line may be returned"). Row k, counted from 1, stands in line `before` + k
+-- 02, S-4: "the line returned shall be the first with that fault". Row k, counted from 1, stands in line `before` + k. What each fault is and which line is the
+-- first is said without this search in Faults
 unfoldable pub firstRow : {X : Type 0} → (ℕ → X → Bool) → ℕ → ℕ → List X → Found
 firstRow bad before k [] = Nothing
 firstRow bad before k (x ∷ l) = cond (bad k x) (At (before + k)) (firstRow bad before (k + 1) l)

@@ -8,13 +8,14 @@ use lib.Dec.{eqb}
 use lib.ListN.{getD, length, length-map}
 use borrow.Author.Tests.{eq-eqb, eqb-true, ltb-true, not-false}
 use Rattle.answers.specs.AnswerLaws.{bound, not-at, not-if, same-good}
-use Rattle.answers.specs.Answers.{Outcome, _>>=_, _>>_, good, refuseAt}
+use Rattle.answers.specs.Answers.{_>>=_, _>>_, good}
 use Rattle.answers.specs.declared.Found.the-variants.{Nothing}
-use Rattle.answers.specs.declared.Refusal.the-variants.{NotReached, NotZero, OutOfLimit, PhaseAbsent, SecondTo, TooLong, UnknownFrom}
+use Rattle.answers.specs.declared.Refusal.the-variants.{TooLong}
 use Rattle.feeder.specs.Feeder.{Feeder, above, branchAt, branchOf, feederOf, known, noBranch, nodesOf, notReached, notZero, outOfLimit, parent, phaseAbsent, placeOf, reading, rowCount, rowsOf, secondTo, tooLong, unknownFrom}
 use Rattle.feeder.specs.Layout.{Rows, layout}
 use Rattle.feeder.specs.Reach.{reach-enough}
 use Rattle.feeder.specs.RowLaws.{none-bad, none-found}
+use Rattle.feeder.specs.Stages.{from11, from20, from21, from22, from23, from24}
 use Rattle.feeder.specs.declared.Branch.{Branch}
 use Rattle.feeder.specs.declared.BranchRow.{BranchRow}
 use Rattle.integers.specs.ListLaws.{all-count, getD-map}
@@ -32,16 +33,12 @@ pub record Sound (s : List ℕ) (f : Feeder) : Type 0 where
   pub t23 : phaseAbsent rows ≡ Nothing
   pub t24 : notZero rows ≡ Nothing
 
--- 11 to 24, behind the layout
-tests : Rows → Outcome Feeder
-tests r = refuseAt OutOfLimit (outOfLimit r) >> (refuseAt UnknownFrom (unknownFrom r) >> (refuseAt SecondTo (secondTo r) >> (refuseAt NotReached (notReached r) >> (refuseAt PhaseAbsent (phaseAbsent r) >> (refuseAt NotZero (notZero r) >> good (feederOf r))))))
-
 -- a feeder that is read has met each test
 pub sound : (s : List ℕ) (f : Feeder) → reading s ≡ good f → Sound s f
-unfolding reading tests
+unfolding reading from11 from20 from21 from22 from23 from24
 sound s f e =
-    let a = not-if (tooLong s) TooLong (layout s >>= tests) f e in
-    let b = bound (layout s) tests f (a .1) in
+    let a = not-if (tooLong s) TooLong (layout s >>= from11) f e in
+    let b = bound (layout s) from11 f (a .1) in
     let c = not-at _ _ _ _ (b .rest) in
     let d = not-at _ _ _ _ (c .1) in
     let g = not-at _ _ _ _ (d .1) in
@@ -102,7 +99,7 @@ unfolding branchAt feederOf
 branch-is r j q d = getD-map (branchOf (nodesOf r)) (r .branches) j d noBranch q
 
 -- 20: every parent is a node
-parent-among : (r : Rows) → unknownFrom r ≡ Nothing → (k : ℕ) → k < suc (rowCount (feederOf r)) → parent (feederOf r) k < suc (rowCount (feederOf r))
+pub parent-among : (r : Rows) → unknownFrom r ≡ Nothing → (k : ℕ) → k < suc (rowCount (feederOf r)) → parent (feederOf r) k < suc (rowCount (feederOf r))
 unfolding unknownFrom feederOf nodesOf branchAt
 parent-among r t zero q = omega arith
 parent-among r t (suc j) q =

@@ -7,6 +7,7 @@ use mathlib.Core.Logic.{_⊎_}
 use Prim.Native.Nat.{_+_, _-_, _≤_, suc, zero, ℕ}
 use Prim.Native.String.{String}
 use lib.Dec.{eqb}
+use lib.ListN.{drop, length}
 use Rattle.feeder.specs.Layout.{Rows}
 use Rattle.feeder.specs.declared.BranchRow.{BranchRow}
 use Rattle.feeder.specs.declared.Kind.{Kind}
@@ -105,6 +106,10 @@ unfoldable pub firstLines : ℕ → List ℕ → List ℕ
 firstLines n [] = []
 firstLines zero (b ∷ s) = []
 firstLines (suc n) (b ∷ s) = b ∷ firstLines (cond (eqb b 10) n (suc n)) s
+
+-- line n, with its LF
+unfoldable pub lineAt : ℕ → List ℕ → List ℕ
+lineAt n s = drop (length (firstLines (n - 1) s)) (firstLines n s)
 
 -- how many lines are ended by LF
 unfoldable pub lineFeeds : List ℕ → ℕ

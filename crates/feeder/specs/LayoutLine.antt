@@ -21,7 +21,7 @@ use Rattle.feeder.specs.TableFaults.{layout-fault}
 pub layout-good : (s : List ℕ) (r : Rows) → (layout s ≡ good r → FileWritable r × (s ≡ fileOf r)) × (FileWritable r → s ≡ fileOf r → layout s ≡ good r)
 layout-good s r = (file-read s r, λ h e. ap layout e ∙ file-back r h)
 
-laid-good : (s : List ℕ) (w : WellLaid s) → layout s ≡ good (w .rows)
+pub laid-good : (s : List ℕ) (w : WellLaid s) → layout s ≡ good (w .rows)
 laid-good s w = layout-good s (w .rows) .1 (w .writable) (w .text)
 
 -- every other file is refused with 10 and a line

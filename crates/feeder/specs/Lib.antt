@@ -3,6 +3,7 @@ pub mod Layout
 pub mod File
 pub mod Feeder
 pub mod Network
+pub mod Faults
 -- Laws
 pub mod FirstLines
 pub mod RowLine
@@ -16,6 +17,13 @@ pub mod LayoutLine
 pub mod NetworkLaws
 pub mod RowLaws
 pub mod Reach
+pub mod Stages
 pub mod FeederLaws
 pub mod RowFacts
 pub mod ProperNames
+pub mod Pointing
+pub mod Standing
+pub mod NodeNames
+pub mod FeederFinds
+pub mod LineOfRow
+pub mod FeederPoints

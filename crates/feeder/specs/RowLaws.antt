@@ -1,6 +1,7 @@
 -- The first line with a fault: where none is found no row has it, and where no row has it none is found. Assumes nothing.
 use mathlib.Core.Bool.{Bool, cond, false, true}
 use mathlib.Core.List.{List, [], _∷_}
+use mathlib.Core.Logic.{⊎-elim}
 use mathlib.Core.Path.{_≡_, refl}
 use Prim.Native.Nat.{_+_, _<_, suc, zero, ℕ}
 use native.Mathlib.Omega.{arith}
@@ -10,7 +11,7 @@ use Rattle.answers.specs.declared.Found.the-variants.{At, Nothing}
 use Rattle.feeder.specs.Feeder.{abc, firstRow, orElse}
 use Rattle.feeder.specs.declared.Phase.{Phase}
 use Rattle.feeder.specs.declared.Phase.the-variants.{A, B, C}
-use Rattle.integers.specs.Bools.{both}
+use Rattle.integers.specs.Bools.{both, clash, fails-test, one-false}
 use Rattle.integers.specs.ListLaws.{getD-tab, length-tab, true-all}
 use Rattle.integers.specs.Lists.{all, count, tab}
 
@@ -18,14 +19,14 @@ use Rattle.integers.specs.Lists.{all, count, tab}
 pub none-bad : {X : Type 0} (bad : ℕ → X → Bool) (before k : ℕ) (l : List X) (d : X) → firstRow bad before k l ≡ Nothing → (i : ℕ) → i < length l → bad (k + i) (getD l i d) ≡ false
 unfolding firstRow
 none-bad bad before k [] d e i h = absurd (omega arith)
-none-bad bad before k (x ∷ l) d e i h = go (bad k x) refl e (none-bad bad before (k + 1) l d) i h
+none-bad bad before k (x ∷ l) d e i h = go _ (bad k x) refl e (none-bad bad before (k + 1) l d) i h
   where
-    go : (c : Bool) → bad k x ≡ c → cond c (At (before + k)) (firstRow bad before (k + 1) l) ≡ Nothing
+    go : (line : ℕ) (c : Bool) → bad k x ≡ c → cond c (At line) (firstRow bad before (k + 1) l) ≡ Nothing
         → (firstRow bad before (k + 1) l ≡ Nothing → (j : ℕ) → j < length l → bad ((k + 1) + j) (getD l j d) ≡ false)
         → (j : ℕ) → j < suc (length l) → bad (k + j) (getD (x ∷ l) j d) ≡ false
-    go true q w far j h = let z : _≡_ {A = ℕ} 0 1 = cc in absurd (omega arith)
-    go false q w far zero h = let z : k + 0 ≡ k = omega arith in rw z q
-    go false q w far (suc j) h = let z : k + suc j ≡ (k + 1) + j = omega arith in rw z (far w j (omega arith))
+    go line true q w far j h = let z : _≡_ {A = ℕ} 0 1 = cc in absurd (omega arith)
+    go line false q w far zero h = let z : k + 0 ≡ k = omega arith in rw z q
+    go line false q w far (suc j) h = let z : k + suc j ≡ (k + 1) + j = omega arith in rw z (far w j (omega arith))
 
 -- what is found has the fault
 pub none-found : {X : Type 0} (bad : ℕ → X → Bool) (before k : ℕ) (l : List X) → ((i : ℕ) (d : X) → i < length l → bad (k + i) (getD l i d) ≡ false) → firstRow bad before k l ≡ Nothing
@@ -85,3 +86,11 @@ each-true f e C = both (f C) true (both (f B) _ (both (f A) _ e .1) .1) .0
 
 pub true-each : (f : Phase → Bool) → ((p : Phase) → f p ≡ true) → all f abc ≡ true
 true-each f h = true-all f abc (h A, (h B, (h C, tt)))
+
+-- it fails just where it fails of one
+pub some-false : (f : Phase → Bool) → all f abc ≡ false → (p : Phase) × (f p ≡ false)
+unfolding all
+some-false f e = ⊎-elim (λ a. (A, a)) (λ h. ⊎-elim (λ b. (B, b)) (λ w. ⊎-elim (λ c. (C, c)) (clash true refl) (one-false (f C) true w)) (one-false (f B) _ h)) (one-false (f A) _ e)
+
+pub false-some : (f : Phase → Bool) (p : Phase) → f p ≡ false → all f abc ≡ false
+false-some f p e = fails-test (all f abc) (λ h. each-true f h p) (λ h. clash (f p) h e)

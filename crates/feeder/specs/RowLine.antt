@@ -11,12 +11,12 @@ use lib.ListN.{getD, length, take}
 use lib.Signed.{ltZ}
 use borrow.Author.Tests.{ne-eqb}
 use Rattle.feeder.specs.File.{branchNames, lineFeeds, loadNames, sourceNames}
-use Rattle.feeder.specs.FirstLines.{OneLine, feeds-append, one-line}
+use Rattle.feeder.specs.FirstLines.{Ended, OneLine, ended-append, ended-none, feeds-append, one-line}
 use Rattle.integers.specs.Lists.{All}
 use Rattle.text.specs.LineText.{line-last, line-more}
 use Rattle.text.specs.Lines.{Row, rowText, Readable}
 use Rattle.text.specs.NameText.{letter-range, letters-some}
-use Rattle.text.specs.Text.{bytes, decimal, digits, letter, letters, line, Proper}
+use Rattle.text.specs.Text.{bytes, decimal, digits, joined, letter, letters, line, Proper}
 
 -- ---- lines that are given word for word
 text-line : (w : String) (n : ℕ) → bytes w ≡ take n (bytes w) ++ (10 ∷ []) → lineFeeds (take n (bytes w)) ≡ 0 → OneLine (bytes w)
@@ -107,3 +107,17 @@ row-first m n x h t = go (x .words) (h .proper) (h .words-are)
     go : (ws : List ℕ) → All Proper ws → length ws ≡ suc m → eqb (getD (line (map (letters 8) ws ++ map decimal (x .values)) ++ t) 0 0) 10 ≡ false
     go [] a q = absurd (omega arith)
     go (v ∷ ws) a q = line-first (letters 8 v) (map (letters 8) ws ++ map decimal (x .values)) (letters-some 8 v (omega arith) (a .0 .some)) (a .0 .made)
+
+-- ---- lines one behind the other: rows, and a table of them with its names before and an empty line behind
+pub lines-many : {X : Type 0} (written : X → List ℕ) (l : List X) → All (λ y. OneLine (written y)) l → Ended (joined written l) × (lineFeeds (joined written l) ≡ length l)
+unfolding joined lineFeeds
+lines-many written [] a = (ended-none, refl)
+lines-many written (x ∷ l) a =
+    let k = lines-many written l (a .1) in
+    (ended-append (written x) (joined written l) (a .0 .ended) (k .0), feeds-append (written x) (joined written l) ∙ omega (arith, a .0 .one, k .1))
+
+pub table-lines : (names rows : List ℕ) → OneLine names → Ended rows → Ended (names ++ (rows ++ bytes "\n")) × (lineFeeds (names ++ (rows ++ bytes "\n")) ≡ lineFeeds rows + 2)
+table-lines names rows one e = (
+  ended-append names (rows ++ bytes "\n") (one .ended) (ended-append rows (bytes "\n") e (empty-line .ended)),
+  omega (arith, feeds-append names (rows ++ bytes "\n"), feeds-append rows (bytes "\n"), one .one, empty-line .one),
+)

@@ -15,15 +15,16 @@ use Rattle.answers.specs.declared.Refusal.{Refusal}
 use Rattle.feeder.specs.File.{BranchWritable, LoadWritable, WellLaid, branchNames, branchText, branchesText, fileOf, lineFeeds, loadNames, loadText, loadsText, rowOfSource, sourceNames, sourceText}
 use Rattle.feeder.specs.FileBack.{branches-back, source-back}
 use Rattle.feeder.specs.FileRead.{branches-read, names-place, one, source-read}
-use Rattle.feeder.specs.FirstLines.{Ended, ended-append, feeds-append, one-some}
+use Rattle.feeder.specs.FirstLines.{Ended, one-some}
 use Rattle.feeder.specs.Layout.{branchRow, branchTable, emptyLine, fileEnd, layout, loadRow, loadTable, rows, sourceTable}
 use Rattle.feeder.specs.LayoutFault.{Fault, behind, here, line-again, rows-fault, text-again, text-told, told-at, wider}
 use Rattle.feeder.specs.LineReader.{row-reader}
-use Rattle.feeder.specs.RowLine.{branch-names, empty-line, load-names, source-names}
-use Rattle.feeder.specs.TableRows.{branch-rows, first-at, load-rows, rows-lines, rows-read}
+use Rattle.feeder.specs.RowLine.{branch-names, empty-line, lines-many, load-names, source-names, table-lines}
+use Rattle.feeder.specs.TableRows.{branch-rows, first-at, load-rows, rows-read}
 use Rattle.feeder.specs.declared.BranchRow.{BranchRow}
 use Rattle.feeder.specs.declared.LoadRow.{LoadRow}
 use Rattle.integers.specs.Bools.{clash}
+use Rattle.integers.specs.ListLaws.{all-map}
 use Rattle.integers.specs.Lists.{All}
 use Rattle.text.specs.Lines.{Row, row, rowText, text, wordOf, Readable}
 use Rattle.text.specs.RowText.{past, row-back, text-back, text-read}
@@ -141,20 +142,18 @@ load-fault Good n line s y e z g =
 
 -- ---- the file
 -- the lines of a whole table
-source-lines : (x : Row) → Readable 1 8 x → Ended (bytes sourceNames ++ (rowText x ++ bytes "\n")) × (lineFeeds (bytes sourceNames ++ (rowText x ++ bytes "\n")) ≡ 3)
+pub source-lines : (x : Row) → Readable 1 8 x → Ended (bytes sourceNames ++ (rowText x ++ bytes "\n")) × (lineFeeds (bytes sourceNames ++ (rowText x ++ bytes "\n")) ≡ 3)
 source-lines x h =
-    let k = row-reader 0 7 .line x h in (
-      ended-append (bytes sourceNames) (rowText x ++ bytes "\n") (source-names .ended) (ended-append (rowText x) (bytes "\n") (k .ended) (empty-line .ended)),
-      omega (arith, feeds-append (bytes sourceNames) (rowText x ++ bytes "\n"), feeds-append (rowText x) (bytes "\n"), source-names .one, k .one, empty-line .one),
-    )
+    let k = row-reader 0 7 .line x h in
+    let w = table-lines (bytes sourceNames) (rowText x) source-names (k .ended) in
+    (w .0, omega (arith, w .1, k .one))
 
-branch-lines : (l : List BranchRow) → All BranchWritable l →
+pub branch-lines : (l : List BranchRow) → All BranchWritable l →
     Ended (bytes branchNames ++ (joined branchText l ++ bytes "\n")) × (lineFeeds (bytes branchNames ++ (joined branchText l ++ bytes "\n")) ≡ length l + 2)
 branch-lines l h =
-    let k = rows-lines branch-rows l h in (
-      ended-append (bytes branchNames) (joined branchText l ++ bytes "\n") (branch-names .ended) (ended-append (joined branchText l) (bytes "\n") (k .0) (empty-line .ended)),
-      omega (arith, feeds-append (bytes branchNames) (joined branchText l ++ bytes "\n"), feeds-append (joined branchText l) (bytes "\n"), branch-names .one, k .1, empty-line .one),
-    )
+    let k = lines-many branchText l (all-map l (branch-rows .reader .line) h) in
+    let w = table-lines (bytes branchNames) (joined branchText l) branch-names (k .0) in
+    (w .0, omega (arith, w .1, k .1))
 
 pub layout-fault : (s : List ℕ) (y : Refusal) → layout s ≡ refused y → Fault (λ t. layout t ≡ refused y) WellLaid 1 s y
 unfolding layout

@@ -10,8 +10,8 @@ use borrow.Author.Tests.{ne-eqb}
 use Rattle.answers.specs.AnswerLaws.{bound, same-good, by-test}
 use Rattle.answers.specs.Answers.{Outcome, good}
 use Rattle.answers.specs.declared.Refusal.{Refusal}
-use Rattle.feeder.specs.File.{BranchWritable, LoadWritable, branchText, lineFeeds, loadText}
-use Rattle.feeder.specs.FirstLines.{Ended, SameLine, ended-append, ended-none, feeds-append, one-some, same-first, same-some}
+use Rattle.feeder.specs.File.{BranchWritable, LoadWritable, branchText, loadText}
+use Rattle.feeder.specs.FirstLines.{SameLine, one-some, same-first, same-some}
 use Rattle.feeder.specs.Layout.{branchRow, emptyLine, fileEnd, loadRow, rows}
 use Rattle.feeder.specs.LineReader.{LineReader, branch-reader, load-reader}
 use Rattle.feeder.specs.declared.BranchRow.{BranchRow}
@@ -40,15 +40,6 @@ module _ {X : Type 0} {read : Refusal → List ℕ → ℕ → Outcome (Placed X
   row-room x h s at t e =
       let k = one-some (written x) (table .reader .line x h) in
       (k, omega (arith, k, ap length e, length-append (written x) t, length-drop at s))
-
-  -- rows one behind the other are as many lines
-  pub rows-lines : (l : List X) → All Writable l → Ended (joined written l) × (lineFeeds (joined written l) ≡ length l)
-  unfolding joined lineFeeds
-  rows-lines [] a = (ended-none, refl)
-  rows-lines (x ∷ l) a =
-      let h = table .reader .line x (a .0) in
-      let k = rows-lines l (a .1) in
-      (ended-append (written x) (joined written l) (h .ended) (k .0), feeds-append (written x) (joined written l) ∙ omega (arith, h .one, k .1))
 
   pub rows-back : (l : List X) → All Writable l → (f : ℕ) (s : List ℕ) (line at : ℕ) (t : List ℕ) → length s < f + at → drop at s ≡ joined written l ++ t
       → over s (at + length (joined written l)) ≡ true → rows read f s line at (over s) ≡ good (l, at + length (joined written l))

@@ -3,80 +3,45 @@ use mathlib.Core.Bool.{Bool, cond, false, true}
 use mathlib.Core.List.{List, [], _∷_}
 use mathlib.Core.Path.{_≡_, ap, refl, subst}
 use Prim.Native.Nat.{_+_, _≤_, suc, zero, ℕ}
-use Prim.Native.String.{String}
 use native.Mathlib.Omega.{arith}
-use lib.Dec.{eqb}
 use lib.ListN.{drop, length, length-drop}
 use borrow.Author.Tests.{ltb-false}
 use Rattle.answers.specs.AnswerLaws.{bound, same-good}
-use Rattle.answers.specs.Answers.{Outcome, _>>=_, _>>_, good, refuseAt, refuseIf, valueOf}
+use Rattle.answers.specs.Answers.{Outcome, _>>=_, _>>_, good, refuseIf, valueOf}
+use Rattle.answers.specs.Only.{cond-only, good-only, refused-only, then-only}
 use Rattle.answers.specs.declared.Refusal.{Refusal}
-use Rattle.answers.specs.declared.Refusal.the-variants.{Layout, NotReached, NotZero, OutOfLimit, PhaseAbsent, SecondTo, TooLong, UnknownFrom}
-use Rattle.feeder.specs.Feeder.{Feeder, feederOf, notReached, notZero, outOfLimit, phaseAbsent, reading, secondTo, sourceIn, tooLong, unknownFrom}
+use Rattle.answers.specs.declared.Refusal.the-variants.{Layout, TooLong}
+use Rattle.feeder.specs.Feeder.{notReached, notZero, outOfLimit, phaseAbsent, reading, secondTo, sourceIn, tooLong, unknownFrom}
 use Rattle.feeder.specs.Layout.{Rows, branchRow, branchTable, emptyLine, fileEnd, kindWords, layout, loadRow, loadTable, loadWords, phaseWords, phasesWords, rows, sourceTable}
+use Rattle.feeder.specs.Stages.{from11, reading-is, tests-only}
 use Rattle.feeder.specs.declared.BranchRow.{BranchRow}
 use Rattle.feeder.specs.declared.LoadRow.{LoadRow}
-use Rattle.flarecomb.specs.Values.{LineUpTo, UpTo, after-up-to, at-up-to, cond-up-to, first-up-to, good-up-to, or-up-to, refused-up-to, then-up-to, unless-up-to}
-use Rattle.text.specs.Lines.{Placed, Row, gotName, gotNumber, listed, names, numbers, row, sepOf, text, wordOf}
-use Rattle.text.specs.Text.{begins, bytes, nameAt, numberAt}
-use Rattle.text.specs.declared.Field.{Field}
-use Rattle.text.specs.declared.Field.the-variants.{NotNumber, Number}
-use Rattle.text.specs.declared.Word.{Word}
-use Rattle.text.specs.declared.Word.the-variants.{Name, NoName}
+use Rattle.flarecomb.specs.Values.{LineUpTo, UpTo, first-up-to, or-up-to, unless-up-to}
+use Rattle.text.specs.Lines.{Placed, Row, listed, row, text, wordOf}
+use Rattle.text.specs.RowRefused.{listed-only, row-only, text-only}
 
--- ---- a line: it is refused by the refusal that it is read with
+-- ---- a line of a table
 module _ {n : ℕ} (r : Refusal) (q : valueOf r ≤ n) where
-  pub text-up-to : (w : String) (s : List ℕ) (at : ℕ) → UpTo n (text r w s at)
-  unfolding text
-  text-up-to w s at = cond-up-to (begins (bytes w) (drop at s)) (good (at + length (bytes w))) _ (good-up-to _) (refused-up-to r q)
-
-  name-up-to : (x : Word) → UpTo n (gotName r x)
-  name-up-to (Name v next) = good-up-to (v, next)
-  name-up-to NoName = refused-up-to r q
-
-  number-up-to : (x : Field) → UpTo n (gotNumber r x)
-  number-up-to (Number z next) = good-up-to (z, next)
-  number-up-to NotNumber = refused-up-to r q
-
-  names-up-to : (m : ℕ) (s : List ℕ) (at : ℕ) → UpTo n (names r m s at)
-  unfolding names
-  names-up-to zero s at = good-up-to ([], at)
-  names-up-to (suc m) s at = then-up-to (gotName r (nameAt 44 s at)) _ (name-up-to (nameAt 44 s at)) (λ a e. then-up-to (names r m s (a .1)) _ (names-up-to m s (a .1)) (λ b f. good-up-to _))
-
-  numbers-up-to : (m : ℕ) (s : List ℕ) (at : ℕ) → UpTo n (numbers r m s at)
-  unfolding numbers
-  numbers-up-to zero s at = good-up-to ([], at)
-  numbers-up-to (suc m) s at = then-up-to (gotNumber r (numberAt (sepOf m) s at)) _ (number-up-to (numberAt (sepOf m) s at)) (λ a e. then-up-to (numbers r m s (a .1)) _ (numbers-up-to m s (a .1)) (λ b f. good-up-to _))
-
-  pub row-up-to : (a b : ℕ) (s : List ℕ) (at : ℕ) → UpTo n (row r a b s at)
-  unfolding row
-  row-up-to a b s at = then-up-to (names r a s at) _ (names-up-to a s at) (λ x e. then-up-to (numbers r b s (x .1)) _ (numbers-up-to b s (x .1)) (λ y f. good-up-to _))
-
-  listed-up-to : {X : Type 0} (w : ℕ) (l : List (ℕ × X)) → UpTo n (listed r w l)
-  unfolding listed
-  listed-up-to w [] = refused-up-to r q
-  listed-up-to w (x ∷ l) = cond-up-to (eqb w (x .0)) (good (x .1)) (listed r w l) (good-up-to _) (listed-up-to w l)
-
   branch-row-up-to : (s : List ℕ) (at : ℕ) → UpTo n (branchRow r s at)
   unfolding branchRow
-  branch-row-up-to s at = then-up-to (row r 4 12 s at) _ (row-up-to 4 12 s at)
-      (λ x e. then-up-to (listed r (wordOf (x .0) 2) phasesWords) _ (listed-up-to _ phasesWords)
-      (λ f g. then-up-to (listed r (wordOf (x .0) 3) kindWords) _ (listed-up-to _ kindWords) (λ k h. good-up-to _)))
+  branch-row-up-to s at = then-only (row r 4 12 s at) _ (row-only r q 4 12 s at)
+      (λ x e. then-only (listed r (wordOf (x .0) 2) phasesWords) _ (listed-only r q _ phasesWords)
+      (λ f g. then-only (listed r (wordOf (x .0) 3) kindWords) _ (listed-only r q _ kindWords) (λ k h. good-only _)))
 
   load-row-up-to : (s : List ℕ) (at : ℕ) → UpTo n (loadRow r s at)
   unfolding loadRow
-  load-row-up-to s at = then-up-to (row r 3 3 s at) _ (row-up-to 3 3 s at)
-      (λ x e. then-up-to (listed r (wordOf (x .0) 1) phaseWords) _ (listed-up-to _ phaseWords)
-      (λ f g. then-up-to (listed r (wordOf (x .0) 2) loadWords) _ (listed-up-to _ loadWords) (λ k h. good-up-to _)))
+  load-row-up-to s at = then-only (row r 3 3 s at) _ (row-only r q 3 3 s at)
+      (λ x e. then-only (listed r (wordOf (x .0) 1) phaseWords) _ (listed-only r q _ phaseWords)
+      (λ f g. then-only (listed r (wordOf (x .0) 2) loadWords) _ (listed-only r q _ loadWords) (λ k h. good-only _)))
 
 -- ---- rows: at most f are read, so that the line of the last is less than f behind the first
 module _ {X : Type 0} (read : Refusal → List ℕ → ℕ → Outcome (Placed X)) where
   rows-up-to : {n : ℕ} → ((r : Refusal) → valueOf r ≤ n → (s : List ℕ) (at : ℕ) → UpTo n (read r s at)) → (f : ℕ) (s : List ℕ) (line at : ℕ) (over : ℕ → Bool) → line + f ≤ suc n → UpTo n (rows read f s line at over)
   unfolding rows
-  rows-up-to h zero s line at over q = good-up-to ([], at)
-  rows-up-to h (suc f) s line at over q = cond-up-to (over at) (good ([], at)) _ (good-up-to _)
-      (then-up-to (read (Layout line) s at) _ (h (Layout line) (omega arith) s at)
-      (λ x e. then-up-to (rows read f s (line + 1) (x .1) over) _ (rows-up-to h f s (line + 1) (x .1) over (omega arith)) (λ y g. good-up-to _)))
+  rows-up-to h zero s line at over q = good-only ([], at)
+  rows-up-to h (suc f) s line at over q = cond-only (over at) (good ([], at)) _ (good-only _)
+      (then-only (read (Layout line) s at) _ (h (Layout line) (omega arith) s at)
+      (λ x e. then-only (rows read f s (line + 1) (x .1) over) _ (rows-up-to h f s (line + 1) (x .1) over (omega arith)) (λ y g. good-only _)))
 
   abbrev put : X → Placed (List X) → Outcome (Placed (List X))
   put x y = good (x ∷ y .0, y .1)
@@ -100,16 +65,16 @@ module _ {X : Type 0} (read : Refusal → List ℕ → ℕ → Outcome (Placed X
 -- ---- the tables
 source-table-up-to : {n : ℕ} (s : List ℕ) → 3 ≤ n → UpTo n (sourceTable s)
 unfolding sourceTable
-source-table-up-to s q = then-up-to (text (Layout 1) "source,va_re,va_im,vb_re,vb_im,vc_re,vc_im,tol,sweeps\n" s 0) _ (text-up-to (Layout 1) (omega arith) _ s 0)
-    (λ a e. then-up-to (row (Layout 2) 1 8 s a) _ (row-up-to (Layout 2) (omega arith) 1 8 s a)
-    (λ x f. then-up-to (text (Layout 3) "\n" s (x .1)) _ (text-up-to (Layout 3) q _ s (x .1)) (λ p g. good-up-to _)))
+source-table-up-to s q = then-only (text (Layout 1) "source,va_re,va_im,vb_re,vb_im,vc_re,vc_im,tol,sweeps\n" s 0) _ (text-only (Layout 1) (omega arith) _ s 0)
+    (λ a e. then-only (row (Layout 2) 1 8 s a) _ (row-only (Layout 2) (omega arith) 1 8 s a)
+    (λ x f. then-only (text (Layout 3) "\n" s (x .1)) _ (text-only (Layout 3) q _ s (x .1)) (λ p g. good-only _)))
 
 branch-table-up-to : {n : ℕ} (s : List ℕ) → length s + 5 ≤ n → UpTo n (branchTable s)
 unfolding branchTable
-branch-table-up-to s q = then-up-to (text (Layout 4) "from,to,phases,kind,p1,p2,p3,p4,p5,p6,p7,p8,p9,p10,p11,p12\n" s 0) _ (text-up-to (Layout 4) (omega arith) _ s 0)
-    (λ a e. then-up-to (rows branchRow (length s) s 5 a (emptyLine s)) _ (rows-up-to branchRow branch-row-up-to (length s) s 5 a (emptyLine s) (omega arith))
-    (λ x f. then-up-to (text (Layout (length (x .0) + 5)) "\n" s (x .1)) _
-    (text-up-to (Layout (length (x .0) + 5)) (let k = rows-few branchRow (length s) s 5 a (emptyLine s) (x .0) (x .1) f in omega arith) _ s (x .1)) (λ p g. good-up-to _)))
+branch-table-up-to s q = then-only (text (Layout 4) "from,to,phases,kind,p1,p2,p3,p4,p5,p6,p7,p8,p9,p10,p11,p12\n" s 0) _ (text-only (Layout 4) (omega arith) _ s 0)
+    (λ a e. then-only (rows branchRow (length s) s 5 a (emptyLine s)) _ (rows-up-to branchRow branch-row-up-to (length s) s 5 a (emptyLine s) (omega arith))
+    (λ x f. then-only (text (Layout (length (x .0) + 5)) "\n" s (x .1)) _
+    (text-only (Layout (length (x .0) + 5)) (let k = rows-few branchRow (length s) s 5 a (emptyLine s) (x .0) (x .1) f in omega arith) _ s (x .1)) (λ p g. good-only _)))
 
 branch-table-few : (s : List ℕ) (l : List BranchRow) (p : ℕ) → branchTable s ≡ good (l, p) → length l ≤ length s
 unfolding branchTable
@@ -122,8 +87,8 @@ branch-table-few s l p e =
 
 load-table-up-to : {n : ℕ} (line : ℕ) (s : List ℕ) → line + length s ≤ n → UpTo n (loadTable line s)
 unfolding loadTable
-load-table-up-to line s q = then-up-to (text (Layout line) "node,phase,kind,vn,p,q\n" s 0) _ (text-up-to (Layout line) (omega arith) _ s 0)
-    (λ a e. then-up-to (rows loadRow (length s) s (line + 1) a (fileEnd s)) _ (rows-up-to loadRow load-row-up-to (length s) s (line + 1) a (fileEnd s) (omega arith)) (λ x f. good-up-to _))
+load-table-up-to line s q = then-only (text (Layout line) "node,phase,kind,vn,p,q\n" s 0) _ (text-only (Layout line) (omega arith) _ s 0)
+    (λ a e. then-only (rows loadRow (length s) s (line + 1) a (fileEnd s)) _ (rows-up-to loadRow load-row-up-to (length s) s (line + 1) a (fileEnd s) (omega arith)) (λ x f. good-only _))
 
 load-table-few : (line : ℕ) (s : List ℕ) (l : List LoadRow) → loadTable line s ≡ good l → length l ≤ length s
 unfolding loadTable
@@ -136,10 +101,10 @@ load-table-few line s l e =
 -- ---- the file
 layout-up-to : {n : ℕ} (s : List ℕ) → length s + length s + 6 ≤ n → UpTo n (layout s)
 unfolding layout
-layout-up-to s q = then-up-to (sourceTable s) _ (source-table-up-to s (omega arith))
-    (λ x e. let t = length-drop (x .1) s in then-up-to (branchTable (drop (x .1) s)) _ (branch-table-up-to (drop (x .1) s) (omega arith))
+layout-up-to s q = then-only (sourceTable s) _ (source-table-up-to s (omega arith))
+    (λ x e. let t = length-drop (x .1) s in then-only (branchTable (drop (x .1) s)) _ (branch-table-up-to (drop (x .1) s) (omega arith))
     (λ y f. let u = length-drop (y .1) (drop (x .1) s) in let k = branch-table-few (drop (x .1) s) (y .0) (y .1) f in
-    then-up-to (loadTable (length (y .0) + 6) (drop (y .1) (drop (x .1) s))) _ (load-table-up-to (length (y .0) + 6) (drop (y .1) (drop (x .1) s)) (omega arith)) (λ z g. good-up-to _)))
+    then-only (loadTable (length (y .0) + 6) (drop (y .1) (drop (x .1) s))) _ (load-table-up-to (length (y .0) + 6) (drop (y .1) (drop (x .1) s)) (omega arith)) (λ z g. good-only _)))
 
 -- no table has more rows than the file has bytes
 record Few (s : List ℕ) (r : Rows) : Type 0 where
@@ -193,27 +158,15 @@ module _ {n : ℕ} (r : Rows) (q : length (r .branches) + length (r .loads) + 6 
   unfolding notZero
   zero-line = first-up-to _ 4 1 (r .branches) (omega arith)
 
--- 11 to 24, behind the layout
-abbrev tests : Rows → Outcome Feeder
-tests r = refuseAt OutOfLimit (outOfLimit r) >> (refuseAt UnknownFrom (unknownFrom r) >> (refuseAt SecondTo (secondTo r) >> (refuseAt NotReached (notReached r) >> (refuseAt PhaseAbsent (phaseAbsent r) >> (refuseAt NotZero (notZero r) >> good (feederOf r))))))
-
-tests-up-to : {n : ℕ} (r : Rows) → length (r .branches) + length (r .loads) + 6 ≤ n → UpTo n (tests r)
-tests-up-to r q =
-    after-up-to (refuseAt OutOfLimit (outOfLimit r)) _ (at-up-to (outOfLimit r) OutOfLimit (λ m. refl) (limit-line r q))
-    (after-up-to (refuseAt UnknownFrom (unknownFrom r)) _ (at-up-to (unknownFrom r) UnknownFrom (λ m. refl) (unknown-line r q))
-    (after-up-to (refuseAt SecondTo (secondTo r)) _ (at-up-to (secondTo r) SecondTo (λ m. refl) (second-line r q))
-    (after-up-to (refuseAt NotReached (notReached r)) _ (at-up-to (notReached r) NotReached (λ m. refl) (reached-line r q))
-    (after-up-to (refuseAt PhaseAbsent (phaseAbsent r)) _ (at-up-to (phaseAbsent r) PhaseAbsent (λ m. refl) (absent-line r q))
-    (after-up-to (refuseAt NotZero (notZero r)) _ (at-up-to (notZero r) NotZero (λ m. refl) (zero-line r q))
-    (good-up-to (feederOf r)))))))
+tests-up-to : {n : ℕ} (r : Rows) → length (r .branches) + length (r .loads) + 6 ≤ n → UpTo n (from11 r)
+tests-up-to r q = tests-only r (limit-line r q .line) (unknown-line r q .line) (second-line r q .line) (reached-line r q .line) (absent-line r q .line) (zero-line r q .line)
 
 -- 9 has no value, and what is not refused by it has at most 65,536 bytes: twice that and 6 is the bound
 pub reading-up-to : (s : List ℕ) → UpTo 131078 (reading s)
-unfolding reading
-reading-up-to s = by (tooLong s) refl
+reading-up-to s = rw (reading-is s) (by (tooLong s) refl)
   where
-    by : (c : Bool) → tooLong s ≡ c → UpTo 131078 (refuseIf c TooLong >> (layout s >>= tests))
-    by true e = refused-up-to TooLong (omega arith)
+    by : (c : Bool) → tooLong s ≡ c → UpTo 131078 (refuseIf c TooLong >> (layout s >>= from11))
+    by true e = refused-only TooLong (omega arith)
     by false e =
         let short : length s ≤ 65536 = ltb-false 65536 (length s) e in
-        then-up-to (layout s) tests (layout-up-to s (omega arith)) (λ r g. let k = layout-few s r g in tests-up-to r (omega arith))
+        then-only (layout s) from11 (layout-up-to s (omega arith)) (λ r g. let k = layout-few s r g in tests-up-to r (omega arith))

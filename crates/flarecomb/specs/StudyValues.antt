@@ -1,44 +1,32 @@
 -- The study: the value of each of its refusals, and the length of a report. Assumes nothing.
-use mathlib.Core.List.{List, []}
+use mathlib.Core.List.{List}
 use mathlib.Core.Path.{_≡_, ap, refl}
-use Prim.Native.Nat.{_+_, _≤_, suc, zero, ℕ}
+use Prim.Native.Nat.{_≤_, ℕ}
 use native.Mathlib.Omega.{arith}
 use lib.Dec.{ltb}
 use lib.ListN.{length}
 use borrow.Author.Tests.{le-ltb, ltb-false}
 use Rattle.answers.specs.AnswerLaws.{bound, same-good}
 use Rattle.answers.specs.Answers.{Outcome, _>>=_, _>>_, good, refuseIf, refused, valueOf}
+use Rattle.answers.specs.Only.{after-only, good-only, if-only, then-only}
 use Rattle.answers.specs.declared.Refusal.{Refusal}
-use Rattle.answers.specs.declared.Refusal.the-variants.{BufferShort, CurrentBeyond, LoadBeyond, NotSettled, VoltageBeyond, ZeroVoltage}
-use Rattle.equations.specs.Equations.{currentBeyond, currents, loadBeyond, voltageBeyond, voltages, zeroVoltage}
+use Rattle.answers.specs.declared.Refusal.the-variants.{BufferShort}
 use Rattle.equations.specs.Fit.{fit}
 use Rattle.feeder.specs.Feeder.{Feeder, reading}
-use Rattle.feeder.specs.declared.Three.{Three}
 use Rattle.flarecomb.specs.ReadingValues.{reading-up-to}
-use Rattle.flarecomb.specs.Values.{UpTo, after-up-to, cond-up-to, good-up-to, if-up-to, refused-up-to, then-up-to}
-use Rattle.iteration.specs.Ladder.{Solution, settled, solution, sweep}
-use Rattle.iteration.specs.LadderLaws.{solved}
+use Rattle.flarecomb.specs.Values.{UpTo}
+use Rattle.iteration.specs.Ladder.{Solution, solution}
+use Rattle.iteration.specs.LadderLaws.{solution-only, solved}
 use Rattle.ladder.specs.Stages.{fitted-is, fittedFrom, fittedWith, textOf}
-use Rattle.ladder.specs.Study.{Report, answered, fitted, report, studyOf}
-use Rattle.ladder.specs.StudyLaws.{study-good}
+use Rattle.ladder.specs.Study.{Report, fitted, report, studyOf}
+use Rattle.ladder.specs.StudyLaws.{refused-from, study-good}
 use Rattle.ladder.specs.declared.Study.the-variants.{NoReport, Written}
 use Rattle.pair.specs.SolutionSizes.{solution-writable}
 use Rattle.report.specs.RoundTrip.{report-short}
 
 -- 30 to 34: the number of the sweep, at most the limit
-sweep-up-to : {n : ℕ} (f : Feeder) (left k : ℕ) (v : List Three) → f .limit ≤ n → k + left ≤ suc n → UpTo n (sweep f left k v)
-unfolding sweep
-sweep-up-to f zero k v p q = refused-up-to (NotSettled (f .limit)) p
-sweep-up-to f (suc left) k v p q =
-    after-up-to (refuseIf (zeroVoltage f v) (ZeroVoltage k)) _ (if-up-to (zeroVoltage f v) (ZeroVoltage k) (omega arith))
-    (after-up-to (refuseIf (loadBeyond f v) (LoadBeyond k)) _ (if-up-to (loadBeyond f v) (LoadBeyond k) (omega arith))
-    (after-up-to (refuseIf (currentBeyond f (currents f v)) (CurrentBeyond k)) _ (if-up-to (currentBeyond f (currents f v)) (CurrentBeyond k) (omega arith))
-    (after-up-to (refuseIf (voltageBeyond f (voltages f (currents f v))) (VoltageBeyond k)) _ (if-up-to (voltageBeyond f (voltages f (currents f v))) (VoltageBeyond k) (omega arith))
-    (cond-up-to (settled f v (voltages f (currents f v))) _ _ (good-up-to _) (sweep-up-to f left (k + 1) (voltages f (currents f v)) p (omega arith))))))
-
 solution-up-to : {n : ℕ} (f : Feeder) → f .limit ≤ n → UpTo n (solution f)
-unfolding solution
-solution-up-to f p = after-up-to (refuseIf (voltageBeyond f (voltages f [])) (VoltageBeyond 0)) _ (if-up-to (voltageBeyond f (voltages f [])) (VoltageBeyond 0) (omega arith)) (sweep-up-to f (f .limit) 1 (voltages f []) p (omega arith))
+solution-up-to f p = solution-only f p (λ j q. record { for-30 = omega arith; for-31 = omega arith; for-32 = omega arith; for-33 = omega arith })
 
 -- the report's length, which 40 returns
 text-short : (s : List ℕ) (f : Feeder) (x : Solution) → reading s ≡ good f → solution f ≡ good x → length (textOf f x) ≤ 65536
@@ -46,18 +34,14 @@ text-short s f x e g = ltb-false 65536 _ (report-short f (x .voltages) (x .curre
 
 fitted-up-to : (s : List ℕ) (n : ℕ) → UpTo 131078 (fitted s n)
 unfolding fittedFrom fittedWith
-fitted-up-to s n = rw (fitted-is s n) (then-up-to (reading s) _ (reading-up-to s)
-    (λ f e. then-up-to (solution f) _ (solution-up-to f (let k = fit s f e .few-sweeps in omega arith))
-    (λ x g. let k = text-short s f x e g in after-up-to (refuseIf (ltb n (length (textOf f x))) (BufferShort (length (textOf f x)))) _ (if-up-to (ltb n (length (textOf f x))) (BufferShort (length (textOf f x))) (omega arith)) (good-up-to _))))
+fitted-up-to s n = rw (fitted-is s n) (then-only (reading s) _ (reading-up-to s)
+    (λ f e. then-only (solution f) _ (solution-up-to f (let k = fit s f e .few-sweeps in omega arith))
+    (λ x g. let k = text-short s f x e g in after-only (refuseIf (ltb n (length (textOf f x))) (BufferShort (length (textOf f x)))) _ (if-only (ltb n (length (textOf f x))) (BufferShort (length (textOf f x))) (omega arith)) (good-only _))))
 
 -- of the answer
-refused-from : (o : Outcome Report) (x : Refusal) → answered o ≡ NoReport x → o ≡ refused x
-refused-from (good t) x e = let z : _≡_ {A = ℕ} 0 1 = cc in absurd (omega arith)
-refused-from (refused y) x e = let z : y ≡ x = cc in ap refused z
-
 pub study-value : (s : List ℕ) (n : ℕ) (x : Refusal) → studyOf s n ≡ NoReport x → valueOf x ≤ 131078
 unfolding studyOf
-study-value s n x e = fitted-up-to s n .value x (refused-from (fitted s n) x e)
+study-value s n x e = fitted-up-to s n .each x (refused-from (fitted s n) x e)
 
 pub study-length : (s : List ℕ) (n len k : ℕ) → studyOf s n ≡ Written len k → len ≤ 65536
 study-length s n len k e = let w = study-good s n len k e in omega (arith, w .text-length, text-short s (w .feeder) (w .solution-found) (w .read) (w .solved-as))

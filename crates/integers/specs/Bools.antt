@@ -1,6 +1,7 @@
 -- Truth values that are chosen by or joined: what follows from the whole of its parts, and back; and the two cases of an equation of numbers. Assumes nothing.
 use mathlib.Core.Path.{_≡_, sym, ap, subst, _∙_}
 use mathlib.Core.Bool.{Bool, true, false, not, cond, _&&_}
+use mathlib.Core.Logic.{_⊎_, inl, inr}
 use Prim.Native.Nat.{ℕ}
 use native.Mathlib.Decide.{ℕ-discrete}
 use lib.Dec.{T}
@@ -26,6 +27,19 @@ both false b e = clash false e (λ i. false)
 
 pub joined : {a b : Bool} → a ≡ true → b ≡ true → (a && b) ≡ true
 joined {b = b} p q = ap (λ (t : Bool). t && b) p ∙ q
+
+pub and-false : (a : Bool) → (a && false) ≡ false
+and-false true = λ i. false
+and-false false = λ i. false
+
+pub one-false : (a b : Bool) → (a && b) ≡ false → (a ≡ false) ⊎ (b ≡ false)
+one-false true b e = inr e
+one-false false b e = inl (λ i. false)
+
+-- a test fails where what it tests for does not hold
+pub fails-test : {X : Type 0} (c : Bool) → (c ≡ true → X) → (X → ⊥) → c ≡ false
+fails-test true h n = absurd (n (h (λ i. true)))
+fails-test false h n = λ i. false
 
 -- `p && q` of the code, where p and q are the tests p′ and q′: with p true it is q, and with p false it is p
 pub and-yes : {p q p′ q′ : Bool} → p ≡ true → p ≡ p′ → q ≡ q′ → q ≡ (p′ && q′)

@@ -1,4 +1,4 @@
--- What is known where the study has a solution: V(k−1) and its I, none of 30 to 33, and a number of sweeps from 1 to the limit. Assumes nothing.
+-- What is known where the study has a solution: V(k−1) and its I, none of 30 to 33, and a number of sweeps from 1 to the limit; and what may be refused. Assumes nothing.
 use mathlib.Core.Bool.{Bool, cond, false, true}
 use mathlib.Core.List.{List, []}
 use mathlib.Core.Path.{_≡_, refl, subst}
@@ -7,7 +7,9 @@ use native.Mathlib.Omega.{arith}
 use lib.ListN.{getD}
 use Rattle.answers.specs.AnswerLaws.{not-if, not-refused, same-good}
 use Rattle.answers.specs.Answers.{_>>_, good, refuseIf}
-use Rattle.answers.specs.declared.Refusal.the-variants.{CurrentBeyond, LoadBeyond, VoltageBeyond, ZeroVoltage}
+use Rattle.answers.specs.Only.{Only, after-only, cond-only, good-only, if-only, refused-only}
+use Rattle.answers.specs.declared.Refusal.{Refusal}
+use Rattle.answers.specs.declared.Refusal.the-variants.{CurrentBeyond, LoadBeyond, NotSettled, VoltageBeyond, ZeroVoltage}
 use Rattle.equations.specs.Equations.{at, currentBeyond, currents, loadBeyond, voltageBeyond, voltages, zero3, zeroVoltage}
 use Rattle.equations.specs.ThreeLaws.{Close3}
 use Rattle.feeder.specs.Feeder.{Feeder, abc, rowCount}
@@ -76,3 +78,28 @@ settled-close f v w e k q p =
     let z : 1 + k ≡ suc k = omega arith in
     close-true (each-true (λ p. close (f .tol) (at (getD w (suc k) zero3) p) (at (getD v (suc k) zero3) p))
     (rw z at (count-true (λ k. all (λ p. close (f .tol) (at (getD w k zero3) p) (at (getD v k zero3) p)) abc) 1 (rowCount f) e k q)) p)
+
+-- the refusals of the sweeps: 30 to 33 with a sweep up to the limit, and 34 with the limit
+pub record SweepsHave (P : Refusal → Type 0) (k : ℕ) : Type 0 where
+  pub for-30 : P (ZeroVoltage k)
+  pub for-31 : P (LoadBeyond k)
+  pub for-32 : P (CurrentBeyond k)
+  pub for-33 : P (VoltageBeyond k)
+
+sweep-only : {P : Refusal → Type 0} (f : Feeder) → P (NotSettled (f .limit)) → (left k : ℕ) (v : List Three) → ((j : ℕ) → j < k + left → SweepsHave P j) → Only P (sweep f left k v)
+unfolding sweep
+sweep-only f last zero k v h = refused-only (NotSettled (f .limit)) last
+sweep-only f last (suc left) k v h =
+    let w = h k (omega arith) in
+    let i : List Three = currents f v in
+    after-only (refuseIf (zeroVoltage f v) (ZeroVoltage k)) _ (if-only (zeroVoltage f v) (ZeroVoltage k) (w .for-30))
+    (after-only (refuseIf (loadBeyond f v) (LoadBeyond k)) _ (if-only (loadBeyond f v) (LoadBeyond k) (w .for-31))
+    (after-only (refuseIf (currentBeyond f i) (CurrentBeyond k)) _ (if-only (currentBeyond f i) (CurrentBeyond k) (w .for-32))
+    (after-only (refuseIf (voltageBeyond f (voltages f i)) (VoltageBeyond k)) _ (if-only (voltageBeyond f (voltages f i)) (VoltageBeyond k) (w .for-33))
+    (cond-only (settled f v (voltages f i)) _ _ (good-only _) (sweep-only f last left (k + 1) (voltages f i) (λ j q. h j (omega arith)))))))
+
+pub solution-only : {P : Refusal → Type 0} (f : Feeder) → P (NotSettled (f .limit)) → ((j : ℕ) → j ≤ f .limit → SweepsHave P j) → Only P (solution f)
+unfolding solution
+solution-only f last h =
+    after-only (refuseIf (voltageBeyond f (voltages f [])) (VoltageBeyond 0)) _ (if-only (voltageBeyond f (voltages f [])) (VoltageBeyond 0) (h 0 (omega arith) .for-33))
+    (sweep-only f last (f .limit) 1 (voltages f []) (λ j q. h j (omega arith)))

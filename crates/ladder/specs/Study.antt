@@ -6,6 +6,7 @@ use lib.Dec.{ltb}
 use lib.ListN.{drop, length}
 use Rattle.answers.specs.Answers.{Outcome, Told, _>>=_, _>>_, good, numberOf, refuseIf, refused, valueOf}
 use Rattle.answers.specs.declared.Refusal.the-variants.{BufferShort}
+use Rattle.feeder.specs.Faults.{PointsIntoFeeder}
 use Rattle.feeder.specs.Feeder.{Feeder, reading}
 use Rattle.iteration.specs.Ladder.{Solution, solution}
 use Rattle.ladder.specs.declared.Study.{Study}
@@ -70,6 +71,10 @@ sweepsTold (refused r) = 0
 pub record StudyTold (o : Outcome Report) (r : Study) : Type 0 where
   pub told : Told reportLength o (studyNumber r) (studyValue r)
   pub sweeps : studySweeps r ≡ sweepsTold o
+
+-- 02, S-4: an answer with the number and the line of a fault points at the first row that has it
+abbrev pub StudyPoints : List ℕ → Study → Type 0
+StudyPoints s r = PointsIntoFeeder s (length s ≤ 65536) (λ y. r ≡ NoReport y)
 
 -- where a report of len bytes is answered, with k sweeps, for a buffer of n: the sweeps are the ladder's, from 1 to the feeder's limit
 pub record StudyGood (s : List ℕ) (n len k : ℕ) : Type 0 where

@@ -8,13 +8,14 @@ use lib.ListN.{length}
 use borrow.Author.Tests.{ltb-false}
 use Rattle.answers.specs.AnswerLaws.{bound, not-if, same-good}
 use Rattle.answers.specs.Answers.{Outcome, _>>=_, _>>_, good, refuseIf, refused}
+use Rattle.answers.specs.declared.Refusal.{Refusal}
 use Rattle.answers.specs.declared.Refusal.the-variants.{BufferShort}
 use Rattle.feeder.specs.Feeder.{Feeder, reading}
 use Rattle.iteration.specs.Ladder.{Solution, solution}
 use Rattle.iteration.specs.LadderLaws.{sweeps-in}
 use Rattle.ladder.specs.Study.{Report, StudyGood, StudyTold, answered, fitted, report, studyOf}
 use Rattle.ladder.specs.declared.Study.{Study}
-use Rattle.ladder.specs.declared.Study.the-variants.{Written}
+use Rattle.ladder.specs.declared.Study.the-variants.{NoReport, Written}
 use Rattle.report.specs.Report.{reportText}
 
 -- the report behind an answer
@@ -27,6 +28,11 @@ record Answered (x : Outcome Report) (len k : ℕ) : Type 0 where
 answer : (x : Outcome Report) (len k : ℕ) → answered x ≡ Written len k → Answered x len k
 answer (good t) len k e = record { report-got = t; came = refl; length-is = cc; sweeps-are = cc }
 answer (refused r) len k e = let z : _≡_ {A = ℕ} 0 1 = cc in absurd (omega arith)
+
+-- and the refusal behind one
+pub refused-from : (o : Outcome Report) (x : Refusal) → answered o ≡ NoReport x → o ≡ refused x
+refused-from (good t) x e = let z : _≡_ {A = ℕ} 0 1 = cc in absurd (omega arith)
+refused-from (refused y) x e = let z : y ≡ x = cc in ap (λ (w : Refusal). refused w) z
 
 pub study-good : (s : List ℕ) (n len k : ℕ) → studyOf s n ≡ Written len k → StudyGood s n len k
 unfolding studyOf fitted report

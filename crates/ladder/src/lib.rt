@@ -8,7 +8,7 @@ ghost use Rattle.feeder.specs.Network.{Held};
 ghost use Rattle.iteration.specs.Ladder.{Solution};
 ghost use Rattle.iteration.specs.Runs.{GoodRun};
 ghost use Rattle.ladder.specs.Stages.{StudyAs, fittedFrom, fittedWith};
-ghost use Rattle.ladder.specs.Study.{StudyGood, StudyTold, bufferOf, fitted, studyOf};
+ghost use Rattle.ladder.specs.Study.{StudyGood, StudyPoints, StudyTold, bufferOf, fitted, studyOf};
 ghost use Rattle.sweeps.specs.Sweeps.{Known, SmallCurrents};
 use answers::Refusal;
 use arrays::Branches;
@@ -127,6 +127,7 @@ pub fn study_feeder(feeder: &[u8], out: &mut [u8]) -> Study
     ensures buffer { λ r. ⌜ now (out .exit) ≡ bufferOf (now (feeder .entry)) (now (out .entry)) ⌝ }
     ensures sweeps { λ r. ⌜ ((len k : ℕ) → r ≡ Study.Written len k → StudyGood (now (feeder .entry)) (length (now (out .entry))) len k) ⌝ }
     ensures told { λ r. ⌜ StudyTold (fitted (now (feeder .entry)) (length (now (out .entry)))) r ⌝ }
+    ensures first { λ r. ⌜ StudyPoints (now (feeder .entry)) r ⌝ }
 {
     let mut nodes = [0u64; 201];
     let mut branches = [[0i64; 17]; 201];

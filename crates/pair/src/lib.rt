@@ -1,7 +1,7 @@
 // The pair of study and check: the check passes every report that the study writes. specs/Pair.antt says it, specs/PairHolds.antt proves it.
 ghost use mathlib.Core.Path.{_≡_};
 ghost use lib.ListN.{length};
-ghost use Rattle.ladder.specs.Study.{StudyTold, bufferOf, fitted, studyOf};
+ghost use Rattle.ladder.specs.Study.{StudyPoints, StudyTold, bufferOf, fitted, studyOf};
 ghost use Rattle.pair.specs.Pair.{Passes};
 ghost use Prim.Native.Nat.{ℕ};
 use ladder::Study;
@@ -15,6 +15,7 @@ pub fn study_and_check(feeder: &[u8], out: &mut [u8]) -> Study
     ensures buffer { λ r. ⌜ now (out .exit) ≡ bufferOf (now (feeder .entry)) (now (out .entry)) ⌝ }
     ensures passed { λ r. ⌜ ((len k : ℕ) → r ≡ Study.Written len k → Passes (now (feeder .entry)) (now (out .exit)) len) ⌝ }
     ensures told { λ r. ⌜ StudyTold (fitted (now (feeder .entry)) (length (now (out .entry)))) r ⌝ }
+    ensures first { λ r. ⌜ StudyPoints (now (feeder .entry)) r ⌝ }
 {
     let answer = study_feeder(feeder, out);
     let Study::Written(size, _) = answer else {

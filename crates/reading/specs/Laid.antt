@@ -20,7 +20,7 @@ use Rattle.names.specs.Numbered.{branchesIn, loadsIn}
 use Rattle.names.specs.NumberedLaws.{take-nodes}
 use Rattle.radial.specs.Radial.{InOrder, Whole, made}
 use Rattle.reading.specs.Reading.{Arranged, NumberedIn, RowsIn, settingsIn}
-use Rattle.reading.specs.Stages.{from11, reading-is}
+use Rattle.feeder.specs.Stages.{from11, reading-is}
 use Rattle.tables.specs.Read.{GoodLayout}
 use Rattle.tables.specs.declared.Tables.{Tables}
 

@@ -1,16 +1,20 @@
 -- What the reading of a feeder file answers, by cases of the definition's outcome. Assumes nothing.
 use mathlib.Core.List.{List}
-use mathlib.Core.Path.{_∙_, _≡_, refl, sym}
-use Prim.Native.Nat.{_+_, _<_, ℕ}
+use mathlib.Core.Path.{_∙_, _≡_, ap, refl, subst, sym}
+use Prim.Native.Nat.{_+_, _<_, _≤_, ℕ}
+use native.Mathlib.Omega.{arith}
 use lib.IntN.{natAbs, ℤ}
 use lib.ListN.{getD, length}
 use Rattle.answers.specs.Answers.{Outcome, Told, good, numberOf, refused, valueOf}
 use Rattle.answers.specs.declared.Refusal.{Refusal}
 use Rattle.arrays.specs.Arrays.{branchRows, fromNames, loadNames, loadRows, numberedBranches, numberedLoads}
 use Rattle.arrays.specs.declared.Settings.{Settings}
-use Rattle.feeder.specs.Feeder.{Feeder, noBranch, nodesOf, threeAt}
+use Rattle.feeder.specs.Faults.{PointsIntoFeeder}
+use Rattle.feeder.specs.Feeder.{Feeder, noBranch, nodesOf, reading, threeAt}
+use Rattle.feeder.specs.FeederPoints.{points-into-feeder, reading-short}
 use Rattle.feeder.specs.Layout.{Rows}
 use Rattle.feeder.specs.Network.{Held, kept, noLoad}
+use Rattle.feeder.specs.Pointing.{turn}
 use Rattle.feeder.specs.declared.Branch.{Branch}
 use Rattle.feeder.specs.declared.Load.{Load}
 use Rattle.feeder.specs.declared.Network.{Network}
@@ -42,6 +46,10 @@ readValue (Refused x) = valueOf x
 -- an answer that tells the number and the value of the outcome o
 abbrev pub ReadTold : Outcome Feeder → ReadAnswer → Type 0
 ReadTold o answer = Told (λ f. 0) o (readNumber answer) (readValue answer)
+
+-- 02, S-4: an answer with the number and the line of a fault points at the first row that has it
+abbrev pub ReadPoints : List ℕ → ReadAnswer → Type 0
+ReadPoints s answer = PointsIntoFeeder s (length s ≤ 65536) (λ y. answer ≡ Refused y)
 
 -- a feeder that is read stands in the network, in an order of work; else the one refusal is the answer
 abbrev pub AnsweredBy : Outcome Feeder → ReadAnswer → Network → Type 0
@@ -131,3 +139,18 @@ as-told {o} {r} h = go o (h .answered)
     go : (o : Outcome Feeder) → AnsweredBy o (r .answer) (r .network) → ReadTold o (r .answer)
     go (good f) a = rw (a .0) (record { number = refl; value = refl })
     go (refused x) a = rw a (record { number = refl; value = refl })
+
+-- and points at the first row with a fault
+pub as-points : (s : List ℕ) {r : Reading} → ReadAs (reading s) r → ReadPoints s (r .answer)
+as-points s {r} h = points-into-feeder s (record {
+  short = λ q. q;
+  into = λ q y e. subst (λ (o : Outcome Feeder). AnsweredBy o (r .answer) (r .network)) e (h .answered);
+  back = λ y p q t. go y p (reading s) refl (h .answered) t;
+})
+  where
+    go : (y : Refusal) → 2 ≤ turn y → (o : Outcome Feeder) → reading s ≡ o → AnsweredBy o (r .answer) (r .network) → r .answer ≡ Refused y → (length s ≤ 65536) × (reading s ≡ refused y)
+    go y p (good f) e a t = let w : Good ≡ Refused y = sym (a .0) ∙ t in let z : _≡_ {A = ℕ} 0 1 = cc in absurd (omega arith)
+    go y p (refused x) e a t =
+        let z : x ≡ y = cc in
+        let f : reading s ≡ refused y = e ∙ ap (λ (w : Refusal). refused w) z in
+        (reading-short s y f (omega arith), f)

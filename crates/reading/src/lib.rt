@@ -1,5 +1,5 @@
 // Every feeder file is met: a feeder in memory, or the one refusal from 9 to 24 that document 01 names. Each function below goes on where the
-// one before it found nothing to refuse; specs/Stages.antt has the definition in the same steps.
+// one before it found nothing to refuse; crates/feeder/specs/Stages.antt has the definition in the same steps.
 use answers::Found;
 use answers::Refusal;
 use arrays::Branches;
@@ -40,8 +40,8 @@ ghost use Rattle.feeder.specs.Layout.{Rows};
 ghost use Rattle.feeder.specs.Network.{kept, noLoad};
 ghost use Rattle.feeder.specs.declared.Branch.{Branch};
 ghost use Rattle.feeder.specs.declared.Load.{Load};
-ghost use Rattle.reading.specs.Reading.{Arranged, NumberedIn, ReadAs, ReadInto, ReadTold, RowsIn, Stored, settingsIn};
-ghost use Rattle.reading.specs.Stages.{from20, from22, from23};
+ghost use Rattle.reading.specs.Reading.{Arranged, NumberedIn, ReadAs, ReadInto, ReadPoints, ReadTold, RowsIn, Stored, settingsIn};
+ghost use Rattle.feeder.specs.Stages.{from20, from22, from23};
 
 // Whether the file is a feeder.
 pub enum ReadAnswer {
@@ -292,6 +292,7 @@ fn loads_of(loads: &Loads) -> [Load; 300]
 pub fn read_feeder(file: &[u8]) -> Reading
     ensures answer { λ x. ⌜ ReadAs (reading (now (file .entry))) x ⌝ }
     ensures told { λ x. ⌜ ReadTold (reading (now (file .entry))) (x .answer) ⌝ }
+    ensures first { λ x. ⌜ ReadPoints (now (file .entry)) (x .answer) ⌝ }
 {
     let mut nodes = [0u64; 201];
     let mut rows = [[0i64; 17]; 201];

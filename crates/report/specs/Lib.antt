@@ -4,3 +4,4 @@ pub mod Report
 pub mod LinesBack
 pub mod RoundTrip
 pub mod ReportRead
+pub mod ReportRows

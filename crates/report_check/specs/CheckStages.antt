@@ -1,4 +1,4 @@
--- The check from each of its tests on, and the answers of the two readers by cases. Assumes nothing.
+-- The check in its steps, and the answers of the two readers by cases. Assumes nothing.
 use mathlib.Core.Bool.{Bool, false, true}
 use mathlib.Core.List.{List}
 use mathlib.Core.Path.{_∙_, _≡_, ap, refl, sym}
@@ -9,47 +9,24 @@ use Rattle.answers.specs.Answers.{Done, Outcome, _>>=_, _>>_, done, good, refus
 use Rattle.answers.specs.declared.Found.{Found}
 use Rattle.answers.specs.declared.Found.the-variants.{At, Nothing}
 use Rattle.answers.specs.declared.Refusal.{Refusal}
-use Rattle.answers.specs.declared.Refusal.the-variants.{CurrentBeyond, CurrentDiffers, LoadBeyond, NameDiffers, ReportLayout, SourceDiffers, TooLong, TotalDiffers, VoltageOff, ZeroVoltage}
-use Rattle.equations.specs.Equations.{currentBeyond, currents, loadBeyond, voltages, zeroVoltage}
+use Rattle.answers.specs.declared.Refusal.the-variants.{CurrentBeyond, LoadBeyond, ReportLayout, TooLong, ZeroVoltage}
+use Rattle.equations.specs.Equations.{currentBeyond, loadBeyond, zeroVoltage}
 use Rattle.feeder.specs.Feeder.{Feeder, reading, tooLong}
-use Rattle.feeder.specs.declared.Three.{Three}
 use Rattle.report.specs.Report.{Reported, reportOf, reportedVoltages}
-use Rattle.compare.specs.Differences.{currentDiffers, nameDiffers, sourceDiffers, totalDiffers}
-use Rattle.report_check.specs.Check.{CheckTold, checkOf, checked, compared, verdictOf, voltageOff}
+use Rattle.report_check.specs.Check.{CheckTold, checkOf, checked, compared, verdictOf}
+use Rattle.report_check.specs.CheckChain.{from30, from53}
 use Rattle.report_check.specs.Demand.{demand3}
+use Rattle.report_check.specs.ReportFaults.{CheckPoints, workedCurrents}
+use Rattle.report_check.specs.ReportPoints.{check-points}
 use Rattle.report_check.specs.declared.Verdict.{Verdict}
 use Rattle.report_check.specs.declared.Verdict.the-variants.{Fail, Pass}
 use Rattle.report_reader.specs.Read.{ReportHeld, ReportIs, ReportRead}
 use Rattle.sweeps.specs.Sweeps.{workOf}
 use Rattle.sweeps.specs.declared.Work.the-variants.{CurrentBeyond as WorkOver, Fine as WorkFine, LoadBeyond as WorkLoad, ZeroVoltage as WorkZero}
 
--- the currents worked at the reported voltages
-abbrev pub workedAt : Feeder → Reported → List Three
-workedAt f x = currents f (reportedVoltages x)
-
-unfoldable pub from55 : Feeder → Reported → Outcome Done
-from55 f x = refuseIf (totalDiffers f x (reportedVoltages x) (workedAt f x)) TotalDiffers >> good done
-
-unfoldable pub from54 : Feeder → Reported → Outcome Done
-from54 f x = refuseAt VoltageOff (voltageOff f x (voltages f (workedAt f x))) >> from55 f x
-
-unfoldable pub from53 : Feeder → Reported → Outcome Done
-from53 f x = refuseAt CurrentDiffers (currentDiffers f x (workedAt f x)) >> from54 f x
-
-unfoldable pub from30 : Feeder → Reported → Outcome Done
-from30 f x =
-    refuseIf (zeroVoltage f (reportedVoltages x)) (ZeroVoltage 0) >> (refuseIf (loadBeyond f (reportedVoltages x)) (LoadBeyond 0) >> (refuseIf (currentBeyond f (workedAt f x)) (CurrentBeyond 0) >> from53 f x))
-
-unfoldable pub from52 : Feeder → Reported → Outcome Done
-from52 f x = refuseAt SourceDiffers (sourceDiffers f x) >> from30 f x
-
 -- 50, and what follows
 unfoldable pub from50 : Feeder → List ℕ → Outcome Done
 from50 f t = reportOf f t >>= λ r. compared f r
-
-pub compared-is : (f : Feeder) (x : Reported) → compared f x ≡ (refuseAt NameDiffers (nameDiffers f x) >> from52 f x)
-unfolding compared from52 from30 from53 from54 from55
-compared-is f x = refl
 
 -- a test that finds a line, and one that finds none
 pub fails-at : {t : Found} {n : ℕ} (r : ℕ → Refusal) (o : Outcome Done) → t ≡ At n → Fail (r n) ≡ verdictOf (refuseAt r t >> o)
@@ -97,7 +74,7 @@ module _ (f : Feeder) (x : Reported) where
   large = loadBeyond f (reportedVoltages x)
 
   abbrev over : Bool
-  over = currentBeyond f (workedAt f x)
+  over = currentBeyond f (workedCurrents f x)
 
   pub fails30 : WorkZero ≡ workOf zero large over → Fail (ZeroVoltage 0) ≡ verdictOf (from30 f x)
   unfolding from30
@@ -162,5 +139,5 @@ unfolding checkOf
 check-told s t e = rw e (verdict-told (checked s t))
 
 -- all of the check's promises, by the first
-pub promised : (s t : List ℕ) {v : Verdict} → v ≡ checkOf s t → (v ≡ checkOf s t) × ((v ≡ Pass → PowerAccount s t) × CheckTold (checked s t) v)
-promised s t e = (e, (λ p. demand3 s t (sym e ∙ p), check-told s t e))
+pub promised : (s t : List ℕ) {v : Verdict} → v ≡ checkOf s t → (v ≡ checkOf s t) × ((v ≡ Pass → PowerAccount s t) × (CheckTold (checked s t) v × CheckPoints s t v))
+promised s t e = (e, (λ p. demand3 s t (sym e ∙ p), (check-told s t e, check-points s t e)))

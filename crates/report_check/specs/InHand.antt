@@ -9,7 +9,6 @@ use lib.ListN.{getD, length-map}
 use Rattle.answers.specs.declared.Found.{Found}
 use Rattle.answers.specs.declared.Found.the-variants.{Nothing}
 use Rattle.equations.specs.Equations.{currentBeyond, downward, drawnPower, lossOf, lostPower, power, sourcePower, voltages, zero3}
-use Rattle.equations.specs.Fit.{fit}
 use Rattle.feeder.specs.Feeder.{Feeder, firstRow, parent, rowCount, rowsOf, threeAt}
 use Rattle.feeder.specs.Network.{Held, kept}
 use Rattle.feeder.specs.RowLaws.{held, or-none}
@@ -24,7 +23,7 @@ use Rattle.radial.specs.Radial.{parentIn}
 use Rattle.report.specs.Report.{Reported, reportedVoltages}
 use Rattle.compare.specs.Differences.{sourceDiffers}
 use Rattle.report_check.specs.Check.{belowOff, off, voltageOff}
-use Rattle.report_check.specs.CheckStages.{workedAt}
+use Rattle.report_check.specs.ReportFaults.{workedCurrents}
 use Rattle.report_check.specs.Tests.{same3-true}
 use Rattle.report_reader.specs.Read.{ReportHeld, ReportRead}
 use Rattle.sweeps.specs.Sweeps.{Known, WorkedIs, workOf}
@@ -40,7 +39,7 @@ pub record Met (g : Network) (t : ReportRead) : Type 0 where
 pub record InHand (f : Feeder) (x : Reported) (g : Network) (t : ReportRead) (i : List Three) (drawn : Pair) : Type 0 where
   pub held : Held f g
   pub read : ReportHeld (rowCount f) x t
-  pub currents-are : i ≡ kept zero3 201 (workedAt f x)
+  pub currents-are : i ≡ kept zero3 201 (workedCurrents f x)
   pub drawn-is : drawn ≡ drawnPower f (reportedVoltages x)
 
 -- the arrays that 55, and 53 to 55, are read off are those of t
@@ -80,21 +79,21 @@ comparable g t m e = record {
 
 -- ---- what is worked with the currents
 module _ (f : Feeder) (x : Reported) (g : Network) (t : ReportRead) (i : List Three) (drawn : Pair) (h : InHand f x g t i drawn) where
-  pub currents-held : Same i (workedAt f x)
+  pub currents-held : Same i (workedCurrents f x)
   currents-held = record { place = λ k. ap (λ (l : List Three). getD l k zero3) (h .currents-are) ∙ same-currents f (reportedVoltages x) (h .held .few-rows) .place k }
 
-  pub losses-held : (each : List Pair) (sum : Pair) → LossesAre f i each sum → each ≡ kept 0c 201 (0c ∷ map (lossOf f (workedAt f x)) (rowsOf f))
+  pub losses-held : (each : List Pair) (sum : Pair) → LossesAre f i each sum → each ≡ kept 0c 201 (0c ∷ map (lossOf f (workedCurrents f x)) (rowsOf f))
   losses-held each sum k = k .each-is ∙ (λ j. kept 0c 201 (0c ∷ map (λ m. loss-same f currents-held m j) (rowsOf f)))
 
-  pub lost-held : (each : List Pair) (sum : Pair) → LossesAre f i each sum → sum ≡ lostPower f (workedAt f x)
+  pub lost-held : (each : List Pair) (sum : Pair) → LossesAre f i each sum → sum ≡ lostPower f (workedCurrents f x)
   lost-held each sum k = k .sum-is ∙ lost-same f currents-held
 
-  pub sent-held : (p : Pair) → p ≡ power (g .source) (getD i 0 zero3) → p ≡ sourcePower f (workedAt f x)
+  pub sent-held : (p : Pair) → p ≡ power (g .source) (getD i 0 zero3) → p ≡ sourcePower f (workedCurrents f x)
   unfolding sourcePower
   sent-held p e = e ∙ ap₂ power (h .held .source) (currents-held .place 0)
 
   -- 54 of the arrays is 54 of the report
-  pub off-held : {r : Found} → r ≡ firstOff f (g .tol) (voltages f i) (t .voltages) → r ≡ voltageOff f x (voltages f (workedAt f x))
+  pub off-held : {r : Found} → r ≡ firstOff f (g .tol) (voltages f i) (t .voltages) → r ≡ voltageOff f x (voltages f (workedCurrents f x))
   unfolding voltageOff off belowOff
   off-held e =
       let tol = h .held .tol in

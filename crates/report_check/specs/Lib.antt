@@ -1,6 +1,12 @@
 pub mod Check
+pub mod ReportFaults
 pub mod Passed
 pub mod Tests
 pub mod Demand
+pub mod OffAbove
+pub mod ReportLines
+pub mod ReportFinds
+pub mod CheckChain
+pub mod ReportPoints
 pub mod CheckStages
 pub mod InHand

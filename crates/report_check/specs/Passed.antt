@@ -1,19 +1,20 @@
 -- A pass: what the check has found of the two texts, each test one by one; and the tests give the pass back. Assumes nothing.
 use mathlib.Core.Bool.{false}
 use mathlib.Core.List.{List}
-use mathlib.Core.Path.{_≡_, refl}
+use mathlib.Core.Path.{_≡_, ap, refl}
 use Prim.Native.Nat.{ℕ}
 use native.Mathlib.Omega.{arith}
 use Rattle.answers.specs.AnswerLaws.{bound, not-at, not-if}
 use Rattle.answers.specs.Answers.{Done, Outcome, _>>=_, done, good, refused}
 use Rattle.answers.specs.declared.Found.the-variants.{Nothing}
+use Rattle.answers.specs.declared.Refusal.{Refusal}
 use Rattle.answers.specs.declared.Refusal.the-variants.{TooLong}
 use Rattle.equations.specs.Equations.{currentBeyond, currents, loadBeyond, voltages, zeroVoltage}
 use Rattle.feeder.specs.Feeder.{Feeder, reading, tooLong}
 use Rattle.report.specs.Report.{Reported, reportOf, reportedVoltages}
 use Rattle.compare.specs.Differences.{currentDiffers, nameDiffers, sourceDiffers, totalDiffers}
 use Rattle.report_check.specs.Check.{checkOf, checked, compared, verdictOf, voltageOff}
-use Rattle.report_check.specs.declared.Verdict.the-variants.{Pass}
+use Rattle.report_check.specs.declared.Verdict.the-variants.{Fail, Pass}
 
 -- the tests that a report has met
 pub record Passed (f : Feeder) (r : Reported) : Type 0 where
@@ -57,6 +58,11 @@ pub record PassFound (s t : List ℕ) : Type 0 where
 pass-good : (x : Outcome Done) → verdictOf x ≡ Pass → x ≡ good done
 pass-good (good done) e = refl
 pass-good (refused r) e = let z : _≡_ {A = ℕ} 0 1 = cc in absurd (omega arith)
+
+-- the refusal behind a verdict
+pub fail-refused : (o : Outcome Done) (y : Refusal) → verdictOf o ≡ Fail y → o ≡ refused y
+fail-refused (good d) y e = let z : _≡_ {A = ℕ} 0 1 = cc in absurd (omega arith)
+fail-refused (refused z) y e = let w : z ≡ y = cc in ap refused w
 
 -- what a pass has found
 pub pass-found : (s t : List ℕ) → checkOf s t ≡ Pass → PassFound s t

@@ -2,6 +2,7 @@
 ghost use mathlib.Core.Path.{_≡_};
 ghost use Rattle.account.specs.Account.{PowerAccount};
 ghost use Rattle.report_check.specs.Check.{CheckTold, checkOf, checked};
+ghost use Rattle.report_check.specs.ReportFaults.{CheckPoints};
 use crate::stages::check_text;
 use answers::Refusal;
 use reading::ReadAnswer;
@@ -19,6 +20,7 @@ pub fn check(feeder: &[u8], report: &[u8]) -> Verdict
     ensures answer { λ r. ⌜ r ≡ checkOf (now (feeder .entry)) (now (report .entry)) ⌝ }
     ensures account { λ r. ⌜ (r ≡ Verdict.Pass → PowerAccount (now (feeder .entry)) (now (report .entry))) ⌝ }
     ensures told { λ r. ⌜ CheckTold (checked (now (feeder .entry)) (now (report .entry))) r ⌝ }
+    ensures first { λ r. ⌜ CheckPoints (now (feeder .entry)) (now (report .entry)) r ⌝ }
 {
     if 65536 < report.len() {
         return Verdict::Fail(Refusal::TooLong);

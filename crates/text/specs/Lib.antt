@@ -9,4 +9,5 @@ pub mod NameText
 pub mod LineLaws
 pub mod LineText
 pub mod RowText
+pub mod RowRefused
 pub mod Stores

@@ -164,3 +164,23 @@ a3-00447 = refl
 a3-00513 : accountOf (bytes "source,va_re,va_im,vb_re,vb_im,vc_re,vc_im,tol,sweeps\nS8,371761,-394795,-530267,-113521,148721,514938,1000,50\n\nfrom,to,phases,kind,p1,p2,p3,p4,p5,p6,p7,p8,p9,p10,p11,p12\nS8,AB,ABC,L,1,0,0,0,0,0,0,1,0,0,0,0\nAB,90UL,ABC,L,0,-1,0,0,0,0,1,1,0,0,1,1\n90UL,UF,ABC,L,607791,1432290,155419,485757,181820,150626,657004,843494,0,0,801731,-1715242\nUF,UY8E,ABC,L,91787795,43959760,0,0,0,0,97596425,-98935559,27665482,-10218775,41317579,51915574\n\nnode,phase,kind,vn,p,q\nUF,AB,P,939260,601,-142\n") (bytes "node,va_re,va_im,vb_re,vb_im,vc_re,vc_im\nS8,371761,-394795,-530267,-113521,148721,514938\nAB,371761,-394795,-530267,-113521,148721,514938\n90UL,371761,-394795,-530267,-113521,148721,514938\nUF,371761,-394795,-530267,-113521,148721,514938\nUY8E,371761,-394795,-530267,-113521,148721,514938\n\nfrom,to,ia_re,ia_im,ib_re,ib_im,ic_re,ic_im,loss_p,loss_q\nS8,AB,65,-5,-65,5,0,0,0,0\nAB,90UL,65,-5,-65,5,0,0,0,0\n90UL,UF,65,-5,-65,5,0,0,350,550\nUF,UY8E,0,0,0,0,0,0,0,0\n\nsweeps,source_p,source_q,drawn_p,drawn_q,lost_p,lost_q\n1,60038190,-13772670,60038190,-13772670,350,550\n") ≡ good (record { differs = record { re = negsuc 62214; im = pos 426776 }; allowed = 1463727 })
 unfolding opened
 a3-00513 = refl
+
+-- S-4, 00060-rand-own
+a4-00060 : accountOf (bytes "source,va_re,va_im,vb_re,vb_im,vc_re,vc_im,tol,sweeps\nS,-2,-1,-1,0,0,2,7,20\n\nfrom,to,phases,kind,p1,p2,p3,p4,p5,p6,p7,p8,p9,p10,p11,p12\nS,N3,ABC,D,6,8,84746,84746,84746,84746,84746,-84746,0,0,0,0\nS,N0,B,R,0,10,0,0,0,0,0,0,0,0,0,0\nN2,N4,B,R,0,10,0,0,0,0,0,0,0,0,0,0\nN0,N2,B,R,0,-4,0,0,0,0,0,0,0,0,0,0\nN0,N1,B,L,0,0,0,0,0,0,4999990,5000000,0,0,0,0\n\nnode,phase,kind,vn,p,q\nN3,AB,I,15266,1,-2\nN3,AB,Z,144,2,-1\nS,BC,I,10399,0,0\n") (bytes "node,va_re,va_im,vb_re,vb_im,vc_re,vc_im\nS,-2,-1,-1,0,0,2\nN3,-3,-4,1,1,1,3\nN0,0,0,-1,0,0,0\nN4,0,0,-1,0,0,0\nN2,0,0,-1,0,0,0\nN1,0,0,-1,0,0,0\n\nfrom,to,ia_re,ia_im,ib_re,ib_im,ic_re,ic_im,loss_p,loss_q\nS,N3,-7,-82,7,82,0,0,150,178\nS,N0,0,0,0,0,0,0,0,0\nN2,N4,0,0,0,0,0,0,0,0\nN0,N2,0,0,0,0,0,0,0,0\nN0,N1,0,0,0,0,0,0,0,0\n\nsweeps,source_p,source_q,drawn_p,drawn_q,lost_p,lost_q\n1,466,-292,438,-293,150,178\n") ≡ good (record { differs = record { re = negsuc 88; im = negsuc 118 }; allowed = 3359 })
+unfolding opened
+a4-00060 = refl
+
+-- S-4, 00112-rand-own
+a4-00112 : accountOf (bytes "source,va_re,va_im,vb_re,vb_im,vc_re,vc_im,tol,sweeps\n8T,708,14,-306,-674,-377,628,5,5\n\nfrom,to,phases,kind,p1,p2,p3,p4,p5,p6,p7,p8,p9,p10,p11,p12\nLDE,A7QNCI8O,A,L,1412551,1190864,0,0,0,0,0,0,0,0,0,0\n8T,Q,A,L,2787,-5665,0,0,0,0,0,0,0,0,0,0\nDX,LDE,A,L,517883,434451,0,0,0,0,0,0,0,0,0,0\nQ,DX,A,R,16,0,0,0,0,0,0,0,0,0,0,0\nA7QNCI8O,PB0V,A,L,836390,712588,0,0,0,0,0,0,0,0,0,0\n\nnode,phase,kind,vn,p,q\nDX,A,I,822,173,-14\n8T,B,Z,758,0,0\nQ,A,P,1082,51,59\nA7QNCI8O,A,Z,822,0,0\nLDE,A,P,1125,0,0\nLDE,A,Z,717,0,0\nPB0V,A,P,822,1,1\nQ,A,Z,808,0,-17\n8T,BC,Z,1282,0,0\nA7QNCI8O,A,I,822,-11,-10\n8T,B,P,740,1,0\nDX,A,Z,833,29,2\n") (bytes "node,va_re,va_im,vb_re,vb_im,vc_re,vc_im\n8T,708,14,-306,-674,-377,628\nA7QNCI8O,1203,28,0,0,0,0\nQ,699,30,0,0,0,0\nLDE,891,31,0,0,0,0\nDX,777,33,0,0,0,0\nPB0V,1190,29,0,0,0,0\n\nfrom,to,ia_re,ia_im,ib_re,ib_im,ic_re,ic_im,loss_p,loss_q\nLDE,A7QNCI8O,-1281,1103,0,0,0,0,402981,340293\n8T,Q,28618,2444,0,0,0,0,218458,-479884\nDX,LDE,-1281,1103,0,0,0,0,147137,124461\nQ,DX,22950,3614,0,0,0,0,0,0\nA7QNCI8O,PB0V,86,-82,0,0,0,0,1200,980\n\nsweeps,source_p,source_q,drawn_p,drawn_q,lost_p,lost_q\n3,20395798,-1329594,19631351,-1322707,769776,-14150\n") ≡ good (record { differs = record { re = negsuc 18770; im = negsuc 4268 }; allowed = 458243 })
+unfolding opened
+a4-00112 = refl
+
+-- S-4, 00180-moved-tol
+a4-00180 : accountOf (bytes "source,va_re,va_im,vb_re,vb_im,vc_re,vc_im,tol,sweeps\nLLG,392670,0,-196029,-339533,-254520,298211,1,20\n\nfrom,to,phases,kind,p1,p2,p3,p4,p5,p6,p7,p8,p9,p10,p11,p12\nLLG,CNKF5NKB,ABC,L,21888149,66386273,10970426,-38186866,0,0,65453601,-57078589,32704704,37739435,40775008,93964818\nCNKF5NKB,CZ,ABC,L,77509610,66180767,11732597,-26385260,26898983,39222590,88042340,75285713,14973385,15455876,53542276,24905699\n\nnode,phase,kind,vn,p,q\nCNKF5NKB,C,I,411902,28,-7\nCZ,C,P,392059,31,-4\n") (bytes "node,va_re,va_im,vb_re,vb_im,vc_re,vc_im\nLLG,392670,0,-196029,-339533,-254520,298211\nCNKF5NKB,392670,0,-195956,-339517,-254386,298287\nCZ,392706,10,-195939,-339515,-254342,298275\n\nfrom,to,ia_re,ia_im,ib_re,ib_im,ic_re,ic_im,loss_p,loss_q\nLLG,CNKF5NKB,0,0,0,0,-12,9,912,2109\nCNKF5NKB,CZ,0,0,0,0,-6,5,330,153\n\nsweeps,source_p,source_q,drawn_p,drawn_q,lost_p,lost_q\n6,5738139,-1287852,5736891,-1290118,1242,2262\n") ≡ good (record { differs = record { re = negsuc 28024; im = negsuc 223887 }; allowed = 1105368 })
+unfolding opened
+a4-00180 = refl
+
+-- S-4, 00249-rand-own
+a4-00249 : accountOf (bytes "source,va_re,va_im,vb_re,vb_im,vc_re,vc_im,tol,sweeps\nKZ7X,1044035,1,1,-1951484,1499075,-374,609,10\n\nfrom,to,phases,kind,p1,p2,p3,p4,p5,p6,p7,p8,p9,p10,p11,p12\nKZ7X,PHFRF4EB,ABC,L,51,-18784070,77524248,-94950637,-284,100000000,-100000000,0,-1,-78162321,0,0\n\nnode,phase,kind,vn,p,q\nKZ7X,BC,P,1772955,-3000000,-3000000\nKZ7X,AB,P,3573656,1,3\n") (bytes "node,va_re,va_im,vb_re,vb_im,vc_re,vc_im\nKZ7X,1044035,1,1,-1951484,1499075,-374\nPHFRF4EB,1044035,1,1,-1951484,1499075,-374\n\nfrom,to,ia_re,ia_im,ib_re,ib_im,ic_re,ic_im,loss_p,loss_q\nKZ7X,PHFRF4EB,0,0,0,0,0,0,0,0\n\nsweeps,source_p,source_q,drawn_p,drawn_q,lost_p,lost_q\n1,-300000046706,-300000067990,-300000046706,-300000067990,0,0\n") ≡ good (record { differs = record { re = negsuc 85060; im = negsuc 183053 }; allowed = 477492590 })
+unfolding opened
+a4-00249 = refl

@@ -154,3 +154,23 @@ v3-00420 = refl
 v3-00481 : checkOf (bytes "source,va_re,va_im,vb_re,vb_im,vc_re,vc_im,tol,sweeps\nWQ,-1529112,451541,0,9647,2000000,-2,0,100\n\nfrom,to,phases,kind,p1,p2,p3,p4,p5,p6,p7,p8,p9,p10,p11,p12\nWQ,Q,ABC,L,1,-49235,16284713,1,100000000,-100000000,1,41511230,73588,100000000,0,100000000\n\nnode,phase,kind,vn,p,q\n") (bytes "node,va_re,va_im,vb_re,vb_im,vc_re,vc_im\nWQ,-1529112,451541,0,9647,2000000,-2\nQ,-1529112,451541,0,9647,2000000,-2\n\nfrom,to,ia_re,ia_im,ib_re,ib_im,ic_re,ic_im,loss_p,loss_q\nWQ,Q,0,0,0,0,0,0,0,0\n\nsweeps,source_p,source_q,drawn_p,drawn_q,lost_p,lost_q\n69,0,0,0,0,0,0\n") ≡ Pass
 unfolding opened
 v3-00481 = refl
+
+-- S-4, 00083-moved-tol
+v4-00083 : checkOf (bytes "source,va_re,va_im,vb_re,vb_im,vc_re,vc_im,tol,sweeps\nS,12,30,-4,-40,-1,-5,7,5\n\nfrom,to,phases,kind,p1,p2,p3,p4,p5,p6,p7,p8,p9,p10,p11,p12\nS,N0,B,R,0,-10,0,0,0,0,0,0,0,0,0,0\nS,N1,ABC,Y,4,6,59524,-178571,59524,-59524,59524,-178571,0,0,0,0\n\nnode,phase,kind,vn,p,q\nN1,C,I,9093,-3,1\nN0,B,Z,314,-3,-1\nN1,CA,Z,400,1,3\n") (bytes "node,va_re,va_im,vb_re,vb_im,vc_re,vc_im\nS,12,30,-4,-40,-1,-5\nN0,0,0,-4,-38,0,0\nN1,17,54,-6,-60,-2,-11\n\nfrom,to,ia_re,ia_im,ib_re,ib_im,ic_re,ic_im,loss_p,loss_q\nS,N0,0,0,51,112,0,0,0,0\nS,N1,134,5,0,0,-139,30,214,-690\n\nsweeps,source_p,source_q,drawn_p,drawn_q,lost_p,lost_q\n1,-1756,5524,-1964,7250,214,-690\n") ≡ Pass
+unfolding opened
+v4-00083 = refl
+
+-- S-4, 00148-rand-own
+v4-00148 : checkOf (bytes "source,va_re,va_im,vb_re,vb_im,vc_re,vc_im,tol,sweeps\nL3,716241,73475,-377334,-612507,-381947,610341,5,1\n\nfrom,to,phases,kind,p1,p2,p3,p4,p5,p6,p7,p8,p9,p10,p11,p12\nL3,D12WEMTH,ABC,R,2,15,5,0,0,0,0,0,0,0,0,0\nL3,1,ABC,R,9,14,-4,0,0,0,0,0,0,0,0,0\n\nnode,phase,kind,vn,p,q\nL3,AB,I,1247077,1481,416\n1,C,Z,749675,0,-3945\nL3,AB,P,1247077,128937,52164\n1,A,I,749675,117073,54228\n1,C,P,749675,7448,8136\nL3,B,P,720000,2403,2156\nD12WEMTH,AB,Z,1306980,-16513,21065\nD12WEMTH,A,Z,754585,0,-2806\nL3,CA,P,1728811,66,-16\nD12WEMTH,AB,I,1354919,250,138\nD12WEMTH,C,I,754585,5749,82\nD12WEMTH,A,Z,754585,5562,1035\n") (bytes "node,va_re,va_im,vb_re,vb_im,vc_re,vc_im\nL3,716241,73475,-377334,-612507,-381947,610341\nD12WEMTH,725307,74405,-416369,-675870,-394268,630029\n1,758931,77854,-413517,-671241,-372631,595455\n\nfrom,to,ia_re,ia_im,ib_re,ib_im,ic_re,ic_im,loss_p,loss_q\nL3,D12WEMTH,528,-1833,157,2131,-395,652,0,0\nL3,1,16273,-5602,0,0,1,1251,0,0\n\nsweeps,source_p,source_q,drawn_p,drawn_q,lost_p,lost_q\n1,25258515224,13616096786,25258085948,13616494998,0,0\n") ≡ Pass
+unfolding opened
+v4-00148 = refl
+
+-- S-4, 00217-rand-own
+v4-00217 : checkOf (bytes "source,va_re,va_im,vb_re,vb_im,vc_re,vc_im,tol,sweeps\nD,225137,1655,-111664,-212441,-116982,202618,2,10\n\nfrom,to,phases,kind,p1,p2,p3,p4,p5,p6,p7,p8,p9,p10,p11,p12\nD,2H,ABC,L,1624971,-4159519,739999,2452409,0,0,4479556,-2373069,0,0,4343332,4665865\n\nnode,phase,kind,vn,p,q\nD,A,I,240000,7,2\nD,A,P,321633,273,54\nD,CA,Z,2000001,0,-17\n2H,BC,Z,415692,0,-46\n2H,AB,P,415692,259,35\n2H,A,P,240000,13304,7382\n2H,B,Z,240000,0,-502\n2H,BC,P,1760672,6251,3643\n") (bytes "node,va_re,va_im,vb_re,vb_im,vc_re,vc_im\nD,225137,1655,-111664,-212441,-116982,202618\n2H,225399,4662,-112866,-213572,-116959,202564\n\nfrom,to,ia_re,ia_im,ib_re,ib_im,ic_re,ic_im,loss_p,loss_q\nD,2H,6027,-3124,90,-210,37,84,7692363,-18589354\n\nsweeps,source_p,source_q,drawn_p,drawn_q,lost_p,lost_q\n3,1413148678,690862806,1405459529,709446343,7692363,-18589354\n") ≡ Pass
+unfolding opened
+v4-00217 = refl
+
+-- S-4, 00276-rand-own
+v4-00276 : checkOf (bytes "source,va_re,va_im,vb_re,vb_im,vc_re,vc_im,tol,sweeps\nI0,720000,0,-363241,-629153,-347138,630789,1,100\n\nfrom,to,phases,kind,p1,p2,p3,p4,p5,p6,p7,p8,p9,p10,p11,p12\nI0,A1H6F8C5,ABC,L,58195220,52818923,24423020,34235038,33988389,8565208,32560965,-29751776,0,0,35222036,26646016\nI0,S0,B,L,0,0,0,0,0,0,0,1,0,0,0,0\n\nnode,phase,kind,vn,p,q\nS0,B,Z,720000,141,104\nI0,AB,Z,1247077,432,247\n") (bytes "node,va_re,va_im,vb_re,vb_im,vc_re,vc_im\nI0,720000,0,-363241,-629153,-347138,630789\nA1H6F8C5,720000,0,-363241,-629153,-347138,630789\nS0,0,0,-363241,-629153,0,0\n\nfrom,to,ia_re,ia_im,ib_re,ib_im,ic_re,ic_im,loss_p,loss_q\nI0,A1H6F8C5,0,0,0,0,0,0,0,0\nI0,S0,0,0,-23,-10,0,0,0,0\n\nsweeps,source_p,source_q,drawn_p,drawn_q,lost_p,lost_q\n1,57975713,36004229,57975713,36004229,0,0\n") ≡ Pass
+unfolding opened
+v4-00276 = refl

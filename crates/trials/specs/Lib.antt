@@ -11,4 +11,5 @@ pub mod StudyLayout
 pub mod StudyRefusals
 pub mod CheckPasses
 pub mod CheckRefusals
+pub mod SeveralRows
 pub mod Accounts

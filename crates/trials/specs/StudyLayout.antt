@@ -195,3 +195,18 @@ v1-00501 = refl
 v3-00387 : studyOf (bytes "source,va_re,va_im,vb_re,vb_im,vc_re,vc_im,tol,sweeps\nRWY,544482,471104,154664,-703192,-673336,247214,20,20\n\nfrom,to,phases,kind,p1,p2,p3,p4,p5,p6,p7,p8,p9,p10,p11,p12\nZP,ZP,ABC,R,11,8,-6,0,0,0,0,0,0,0,0,0\nZP,ZP,B,D,2,1,0,0,0,0,0,0,0,0,0,0\n\nnode,phase,kind,vn,p,q\nZP,BC,Z,1275609,0,-11128\nZP,,I,720000,40592,28917\nZP,B,Z,720000,33816,12537\nZP,C,P,1024691,-1,-1592\n7O,B,I,2000001,70610,30642\n") 1000000 ≡ NoReport (Layout 10)
 unfolding opened
 v3-00387 = refl
+
+-- S-4, 00110-faults
+v4-00110 : studyOf (bytes "source,va_re,va_im,vb_re,vb_im,vc_re,vc_im,tol,sweeps\nA5CC,102423,-217897,-239150,20183,145189,208712,1,20\n\nfrom,to,phases,kind,p1,p2,p3,p4,p5,p6,p7,p8,p9,p10,p11,p12\nA5CC,OL,ABC,Y,20000,1000,94174361,28140287,30875312,65734704,85454703,57173593,0,0,0,0\nEW,7,ABC,L,3790,3022,851,2224,2133,516,5468,3306,2018,596,4648,3009\nV0,EW,ABC,D,1000000,87338,1444,5732,3376,5720,1931,1835,0,0,0,0\nYC,JL,ABC,Z,59770239,92850453,0,0,0,0,66391842,97238014,15185456,29639100,55845006,-82119985\nA5CC,V0,ABC,L,350143,201128,141053,182113,75797,62508,428758,241361,188424,-93233,414944,276941\nA5CC,S3L,ABC,L,51979890,-49113017,33647814,-21154967,24077030,-38546522,93987146,74082021,0,0,41679269,52367293\nA5CC,YC,ABC,R,13,-11,16,0,0,0,0,0,0,0,0,0\nYC,Y95OAT8X,ABC,R,5,13,-9,0,0,0,0,0,0,0,0,0\n\nnode,phase,kind,vn,p,q\nA5CC,BC,I,415692,168,-50\nY95OAT8X,A,I,254826,-498,3063\nY95OAT8X,CA,Z,518481,0,-7\nA5CC,CA,P,612496,89,81\n7,C,P,34684,4221,2585\n") 1000000 ≡ NoReport (Layout 8)
+unfolding opened
+v4-00110 = refl
+
+-- S-4, 00175-faults
+v4-00175 : studyOf (bytes "source,va_re,va_im,vb_re,vb_im,vc_re,vc_im,tol,sweeps\nS,240000,0,-120000,61943446163053661,-120000,207840,1,100\n\nfrom,to,phases,kind,p1,p2,p3,p4,p5,p6,p7,p8,p9,p10,p11,p12\nN1,N1,A,L,1214552,538722,0,0,0,0,0,0,0,0,0,0\nS,N0,A,R,0,0,0,0,0,0,0,0,0,0,0,-1\nN1,N2,D,R,0,0,0,1,0,0,0,0,0,0,0,0\n\nnode,phase,kind,vn,p,q\nN2,A,P,240000,527611,76700\nN2,A,Z,240000,0,-488924\n") 1000000 ≡ NoReport (Layout 7)
+unfolding opened
+v4-00175 = refl
+
+-- S-4, 00274-faults
+v4-00274 : studyOf (bytes "source,va_re,va_im,vb_re,vb_im,vc_re,vc_im,tol,sweeps\nS,720000,0,-360000,-623520,-360000,623520,1,100\n\nfrom,to,phases,kind,p1,p2,p3,p4,p5,p6,p7,p8,p9,p10,p11,p12\nN0,N0,ABCA,L,-16155539,2980446,0,0,0,0,0,0,0,0,0,0\nS,N0,C,L,-13615917,4295466,0,0,0,0,0,0,0,0,0,0\n\nnode,phase,kind,vn,p,q\nN1,A,I,720000,813262,226249\nN0,A,Z,720000,0,-76557\n") 1000000 ≡ NoReport (Layout 5)
+unfolding opened
+v4-00274 = refl

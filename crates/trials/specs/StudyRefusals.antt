@@ -1,6 +1,6 @@
 -- Vectors: the study's other refusals. Assumes nothing.
 use mathlib.Core.Path.{_≡_, refl}
-use Rattle.answers.specs.declared.Refusal.the-variants.{OutOfLimit, SecondTo, PhaseAbsent, NotZero, ZeroVoltage, LoadBeyond, CurrentBeyond, VoltageBeyond, NotSettled, BufferShort}
+use Rattle.answers.specs.declared.Refusal.the-variants.{OutOfLimit, SecondTo, NotReached, PhaseAbsent, NotZero, ZeroVoltage, LoadBeyond, CurrentBeyond, VoltageBeyond, NotSettled, BufferShort}
 use Rattle.text.specs.Text.{bytes}
 use Rattle.ladder.specs.Study.{studyOf}
 use Rattle.ladder.specs.declared.Study.the-variants.{NoReport}
@@ -160,3 +160,23 @@ v3-00213 = refl
 v3-00430 : studyOf (bytes "source,va_re,va_im,vb_re,vb_im,vc_re,vc_im,tol,sweeps\nS,1000000,0,-500000,-866000,-500000,866000,1,50\n\nfrom,to,phases,kind,p1,p2,p3,p4,p5,p6,p7,p8,p9,p10,p11,p12\nS,N0,ABC,L,41289314,96417054,10322328,24104263,0,0,41289314,96417054,0,0,41289314,96417054\n\nnode,phase,kind,vn,p,q\nN0,AB,P,1732051,242843,-11638\nN0,B,P,1000000,223096,96623\nN0,CA,Z,1732051,0,-225952\nN0,C,P,1432875,222112,98864\nN0,AB,Z,1732051,0,-125256\n") 1000000 ≡ NoReport (NotSettled 50)
 unfolding opened
 v3-00430 = refl
+
+-- S-4, 00132-faults
+v4-00132 : studyOf (bytes "source,va_re,va_im,vb_re,vb_im,vc_re,vc_im,tol,sweeps\nS,0,0,1,0,0,-1333332,0,100\n\nfrom,to,phases,kind,p1,p2,p3,p4,p5,p6,p7,p8,p9,p10,p11,p12\nS,N,A,R,0,0,-16,0,0,0,0,0,0,0,0,0\n\nnode,phase,kind,vn,p,q\nN,C,Z,2000000,44,45886650110989845\n") 1000000 ≡ NoReport (OutOfLimit 8)
+unfolding opened
+v4-00132 = refl
+
+-- S-4, 00011-22-04
+v4-00011 : studyOf (bytes "source,va_re,va_im,vb_re,vb_im,vc_re,vc_im,tol,sweeps\nS,720000,0,-360000,-623538,-360000,623538,1,20\n\nfrom,to,phases,kind,p1,p2,p3,p4,p5,p6,p7,p8,p9,p10,p11,p12\nN0,N0,A,L,0,0,0,0,0,0,0,0,0,0,0,0\nS,N1,A,L,0,0,0,0,0,0,0,0,0,0,0,0\nS,N2,A,L,0,0,0,0,0,0,0,0,0,0,0,0\nS,N3,A,L,0,0,0,0,0,0,0,0,0,0,0,0\nN4,N4,A,L,0,0,0,0,0,0,0,0,0,0,0,0\n\nnode,phase,kind,vn,p,q\n") 1000000 ≡ NoReport (NotReached 5)
+unfolding opened
+v4-00011 = refl
+
+-- S-4, 00272-faults
+v4-00272 : studyOf (bytes "source,va_re,va_im,vb_re,vb_im,vc_re,vc_im,tol,sweeps\nS,1800000,0,-900000,-1558800,-900000,1558800,3,10\n\nfrom,to,phases,kind,p1,p2,p3,p4,p5,p6,p7,p8,p9,p10,p11,p12\nS,N0,ABC,Y,5,4,0,0,0,0,0,0,0,0,1,0\n\nnode,phase,kind,vn,p,q\nN0,CA,P,3117691,656011,845\nN0,B,Z,1800000,0,-3470\nN0,B,P,1800000,646547,111034\nN0,C,I,1800000,573080,319266\n") 1000000 ≡ NoReport (NotZero 5)
+unfolding opened
+v4-00272 = refl
+
+-- S-4, 00195-rand
+v4-00195 : studyOf (bytes "source,va_re,va_im,vb_re,vb_im,vc_re,vc_im,tol,sweeps\n1M54P9OH,720000,0,-389289,-605685,-360000,623538,0,2\n\nfrom,to,phases,kind,p1,p2,p3,p4,p5,p6,p7,p8,p9,p10,p11,p12\n8PIXQFVR,R,ABC,L,0,0,0,0,0,0,1,0,0,0,1,1\nR,TF,ABC,L,39890531,47601757,0,0,25710864,-20987727,72549060,-62972868,0,0,73369309,-25042975\nR,EOWLR8RT,ABC,R,4,16,11,0,0,0,0,0,0,0,0,0\nI2T1IXMA,5O,A,L,4781676,-10077677,0,0,0,0,0,0,0,0,0,0\nUQ7F,O,AB,L,25469990,-38069995,0,0,0,0,98710296,36641872,0,0,0,0\nI2T1IXMA,JTA,A,L,1,0,0,0,0,0,0,0,0,0,0,0\n5O,2P0I,A,L,337647,565794,0,0,0,0,0,0,0,0,0,0\nAP20BLXO,UQ7F,AB,L,71877301,77918300,25866395,31696315,0,0,57176920,38329650,0,0,0,0\n1M54P9OH,AP20BLXO,AB,L,8042562,-5909589,7591428,-3945709,0,0,12738010,-19050760,0,0,0,0\n1M54P9OH,8PIXQFVR,ABC,D,249415,2400,58130,25152,45280,25022,34662,64511,0,0,0,0\n2P0I,6SSNPFTP,A,L,75611961,81189160,0,0,0,0,0,0,0,0,0,0\n8PIXQFVR,I2T1IXMA,A,R,7,0,0,0,0,0,0,0,0,0,0,0\n\nnode,phase,kind,vn,p,q\n2P0I,A,Z,11564,0,0\nI2T1IXMA,A,I,11180,1782,574\n2P0I,A,P,12549,33,-8\nEOWLR8RT,B,Z,12829,0,0\nUQ7F,AB,P,1823589,1559,1345\nUQ7F,A,Z,720000,64,-219\nI2T1IXMA,A,P,18106,18,15\nJTA,A,Z,12549,902,585\n1M54P9OH,CA,P,1410234,32,-2\nAP20BLXO,B,P,720000,108,26\n2P0I,A,P,12549,7,1\nAP20BLXO,AB,Z,3251466,330,-66\n8PIXQFVR,B,P,17373,61,59\n8PIXQFVR,C,I,12000,0,0\nUQ7F,B,P,1028572,5433,1861\nJTA,A,P,12549,28,1\n2P0I,A,P,12549,11,2\n2P0I,A,Z,12549,0,-63\nAP20BLXO,B,Z,720000,-37,1\nTF,A,P,12000,0,0\nJTA,A,P,12549,1670,2337\n2P0I,A,Z,10115,76,20\n2P0I,A,P,23404,391,15\nEOWLR8RT,BC,P,32766,15,17\nEOWLR8RT,BC,P,21545,469,493\n") 1000000 ≡ NoReport (NotSettled 2)
+unfolding opened
+v4-00195 = refl

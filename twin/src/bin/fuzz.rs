@@ -2,9 +2,11 @@
 //!
 //! Every case is a feeder and a report. The study is run with buffers of many lengths, filled beforehand and with guard
 //! bytes around them, and the answer with its sweeps and every byte are compared; then the check. The first difference
-//! ends the run, and its files are written to the folder named by FUZZ_OUT (or here). How often each answer was met is
-//! printed at the end: for all feeders, for those with a load row between two phases, and for those with a P row below 70
-//! per cent of vn (the study's answers if in any sweep, the check's if in the report).
+//! ends the run, and its files are written to the folder named by FUZZ_OUT (or here). A line that comes with a refusal must
+//! also be the first of all that have the fault, which are sought row by row. How often each answer was met is printed at
+//! the end: for all feeders, for those with a load row between two phases, for those with a P row below 70 per cent of vn
+//! (the study's answers if in any sweep, the check's if in the report), and for those where two rows or more have the fault
+//! that was answered; then how often 54 passed over a row that is fed through one that is off, by where that row stands.
 //!
 //! `--self` compares the twin with itself by the same calls. There TWIN_WRONG=KIND:N spoils the N-th call on the other
 //! side, to show that the fuzzer notices: KIND is `answer`, `sweeps`, `byte` (in the report), `behind` (a byte behind
@@ -13,6 +15,7 @@
 use std::collections::BTreeMap;
 use std::sync::atomic::{AtomicU64, Ordering};
 use twin::equations::Phases;
+use twin::faults::{lines_with, passed_over};
 use twin::generate::{any_feeder, any_report, Random};
 use twin::ladder::settle_watched;
 use twin::outside::{twin_check, twin_study, Calls, PROVED};
@@ -113,6 +116,12 @@ struct Counts {
     low: Met,
     /// Whether the case in hand is one.
     has_low: bool,
+    /// Those where two rows or more have the fault that was answered.
+    several: Met,
+    /// Whether the answer in hand is one.
+    has_several: bool,
+    /// Answers 54 by where a row stands that is off and is fed through one that is off.
+    passed_over: BTreeMap<&'static str, u64>,
     calls: u64,
 }
 
@@ -133,8 +142,32 @@ impl Counts {
     fn now(&mut self) -> impl Iterator<Item = &mut Met> {
         let delta = self.has_delta.then_some(&mut self.delta);
         let low = self.has_low.then_some(&mut self.low);
-        std::iter::once(&mut self.all).chain(delta).chain(low)
+        let several = self.has_several.then_some(&mut self.several);
+        std::iter::once(&mut self.all).chain(delta).chain(low).chain(several)
     }
+
+    /// Counts an answer 54 with this line once for each kind of row that it passed over.
+    fn pass_over(&mut self, line: u64, feeder: &[u8], report: &[u8]) {
+        let rows = passed_over(feeder, report);
+        for (kind, met) in [
+            ("before the answer's line", rows.iter().any(|row| row.line < line)),
+            ("behind it", rows.iter().any(|row| row.line > line)),
+            ("with the node above it within tol, before", rows.iter().any(|row| row.parent_within && row.line < line)),
+            ("with the node above it within tol, behind", rows.iter().any(|row| row.parent_within && row.line > line)),
+        ] {
+            *self.passed_over.entry(kind).or_default() += u64::from(met);
+        }
+    }
+}
+
+/// Whether two rows or more have the fault that was answered; an error where the answer's line is not the first of them.
+fn has_several(answer: Answer, feeder: &[u8], report: &[u8]) -> Result<bool, String> {
+    let Answer::Refused { number, value } = answer else { return Ok(false) };
+    let Some(lines) = lines_with(number, feeder, report) else { return Ok(false) };
+    if lines.first() != Some(&value) {
+        return Err(format!("the twin says {answer:?}, and lines {lines:?} have that fault"));
+    }
+    Ok(lines.len() > 1)
 }
 
 /// Whether the file has a line like a load row between two phases. It need not be a good feeder.
@@ -171,6 +204,7 @@ fn compare(far: &Calls, feeder: &[u8], report: &[u8], salt: u8, counts: &mut Cou
     let first = twin::study(feeder, large.middle());
     counts.has_delta = has_delta(feeder);
     counts.has_low = low_in_study(feeder);
+    counts.has_several = has_several(first, feeder, &[])?;
     counts.study(first);
 
     let mut lengths = vec![MAX_FILE, 0, 1];
@@ -232,7 +266,11 @@ fn compare_check(
 ) -> Result<(), String> {
     let answer = twin::check(feeder, report);
     counts.has_low = low_in_report(feeder, report);
+    counts.has_several = has_several(answer, feeder, report)?;
     counts.check(answer);
+    if let Answer::Refused { number: 54, value } = answer {
+        counts.pass_over(value, feeder, report);
+    }
     counts.calls += 1;
     if due.is_some_and(|due| due != answer) {
         return Err(format!("check: the twin refuses its own report, {answer:?}"));
@@ -310,5 +348,9 @@ fn main() {
     line("check, with delta loads", &counts.delta.checks);
     line("study, with low voltage", &counts.low.studies);
     line("check, with low voltage", &counts.low.checks);
+    line("study, several rows with the fault", &counts.several.studies);
+    line("check, several rows with the fault", &counts.several.checks);
+    let passed_over: Vec<String> = counts.passed_over.iter().map(|(kind, count)| format!("{kind}: {count}")).collect();
+    println!("check, 54 with a row that is off and fed through one that is off  {}", passed_over.join(", "));
     println!("{count} cases of seed {seed}, {} calls on each side, 0 differences", counts.calls);
 }

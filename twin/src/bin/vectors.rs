@@ -4,8 +4,8 @@
 //! The calls are study, check, account and root. For an account the report must pass, and the differences and the allowance
 //! of the power account be those expected; for a root of a number n the root and its steps.
 //!
-//! Where several values are allowed, the answer must be the first of them; for 54, where the first by the file need not
-//! be the first that is fed through none that is off, it must be among them (and a note is printed where it is not first).
+//! A refusal comes with one value. The base's own index has several in some cases, from before S-4 of document 02; these
+//! are differences here.
 
 use std::path::{Path, PathBuf};
 use twin::account::account_of;
@@ -39,9 +39,8 @@ fn before(at: usize) -> u8 {
     (at * 7 + 3) as u8
 }
 
-/// What is wrong with the answer to the case, if anything; `first` counts cases where a value is free and ours is the
-/// first allowed, `other` where it is not.
-fn run(folder: &Path, line: &str, first: &mut usize, other: &mut usize) -> Result<(), String> {
+/// What is wrong with the answer to the case, if anything.
+fn run(folder: &Path, line: &str) -> Result<(), String> {
     let read = |name: &str| std::fs::read(path(folder, name)).map_err(|e| format!("{name}: {e}"));
     let call = word(line, "call").ok_or("no call")?;
     if call == "root" {
@@ -82,18 +81,9 @@ fn run(folder: &Path, line: &str, first: &mut usize, other: &mut usize) -> Resul
         (Some("pass"), Answer::Pass) => Ok(()),
         (Some("refuse"), Answer::Refused { number: n, value }) => {
             let due = number(expected, "number").ok_or("no number")?;
-            let allowed = values(expected).ok_or("no values")?;
-            if n as usize != due || !allowed.contains(&value) {
-                return Err(format!("refused {n} {value}, due {due} {allowed:?}"));
-            }
-            if allowed.len() > 1 {
-                if value == allowed.iter().copied().min().unwrap_or(0) {
-                    *first += 1;
-                } else if n == 54 {
-                    *other += 1;
-                } else {
-                    return Err(format!("refused {n} {value}, which is allowed but not the first of {allowed:?}"));
-                }
+            let values = values(expected).ok_or("no values")?;
+            if n as usize != due || values != [value] {
+                return Err(format!("refused {n} {value}, due {due} {values:?}"));
             }
             Ok(())
         }
@@ -141,15 +131,6 @@ fn path(folder: &Path, name: &str) -> PathBuf {
     }
 }
 
-/// How many cases were run, and with what outcome.
-#[derive(Default)]
-struct Tally {
-    cases: usize,
-    differences: usize,
-    first: usize,
-    other: usize,
-}
-
 fn main() {
     let Some(folder) = std::env::args().nth(1) else {
         eprintln!("usage: vectors FOLDER");
@@ -160,22 +141,20 @@ fn main() {
     if folder.join("base.jsonl").exists() {
         lists.push("base.jsonl");
     }
-    let mut all = Tally::default();
+    let (mut cases, mut differences) = (0, 0);
     for list in &lists {
-        let (cases, differences) = (all.cases, all.differences);
+        let (cases_before, differences_before) = (cases, differences);
         for line in std::fs::read_to_string(folder.join(list)).expect(list).lines() {
-            all.cases += 1;
-            if let Err(reason) = run(folder, line, &mut all.first, &mut all.other) {
-                all.differences += 1;
+            cases += 1;
+            if let Err(reason) = run(folder, line) {
+                differences += 1;
                 println!("{list}, {}: {reason}", word(line, "name").unwrap_or("?"));
             }
         }
         if lists.len() > 1 {
-            println!("{list}: {} cases, {} differences", all.cases - cases, all.differences - differences);
+            println!("{list}: {} cases, {} differences", cases - cases_before, differences - differences_before);
         }
     }
-    let Tally { cases, differences, first, other } = all;
-    println!("value free in {} cases: the first allowed in {first}, another (54 only) in {other}", first + other);
     println!("{cases} cases, {differences} differences");
     if differences > 0 || cases == 0 {
         std::process::exit(1);

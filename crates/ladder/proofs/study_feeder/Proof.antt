@@ -8,7 +8,8 @@ use Rattle.feeder.specs.Feeder.{reading}
 use Rattle.feeder.specs.declared.Network.{Network}
 use Rattle.ladder.specs.StageLaws.{study-whole, whole-read, whole-refused}
 use Rattle.sweeps.specs.ReadKnown.{ReadKnown, read-good, read-refused}
-use Rattle.ladder.specs.Study.{StudyGood, StudyTold, bufferOf, fitted, studyOf}
+use Rattle.ladder.specs.Study.{StudyGood, StudyPoints, StudyTold, bufferOf, fitted, studyOf}
+use Rattle.ladder.specs.StudyPoints.{study-points}
 use Rattle.ladder.specs.StudyLaws.{study-good, study-told}
 use Rattle.ladder.specs.declared.Study.{Study}
 use Rattle.ladder.specs.declared.Study.the-variants.{Written}
@@ -16,10 +17,10 @@ use borrow.Author.Needs.{needs}
 use Rattle.ladder.proofs.study_feeder.Statement.{statement}
 use Rattle.ladder.proofs.study_feeder.Tie as tie
 
--- the clauses on the sweeps, and on number and value, follow from the answer
+-- the clauses on the sweeps, on number and value and on the line follow from the answer
 with-sweeps : (s before after : List ℕ) (r : Study) → (r ≡ studyOf s (length before)) × (after ≡ bufferOf s before)
-    → (r ≡ studyOf s (length before)) × ((after ≡ bufferOf s before) × (((len k : ℕ) → r ≡ Written len k → StudyGood s (length before) len k) × StudyTold (fitted s (length before)) r))
-with-sweeps s before after r h = (h .0, (h .1, (λ len k e. study-good s (length before) len k (sym (h .0) ∙ e), study-told s (length before) r (h .0))))
+    → (r ≡ studyOf s (length before)) × ((after ≡ bufferOf s before) × (((len k : ℕ) → r ≡ Written len k → StudyGood s (length before) len k) × (StudyTold (fitted s (length before)) r × StudyPoints s r)))
+with-sweeps s before after r h = (h .0, (h .1, (λ len k e. study-good s (length before) len k (sym (h .0) ∙ e), (study-told s (length before) r (h .0), study-points s (length before) (h .0)))))
 
 abbrev start : tie.After-read-into → tie.Start
 start r = r .before .before .before .before .before .before .before .before

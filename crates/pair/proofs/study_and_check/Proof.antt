@@ -5,6 +5,7 @@ use native.Mathlib.Omega.{arith}
 use lib.ListN.{length, take}
 use borrow.Author.Needs.{needs}
 use Rattle.ladder.specs.Study.{bufferOf, studyOf}
+use Rattle.ladder.specs.StudyPoints.{study-points}
 use Rattle.ladder.specs.StudyLaws.{study-good, study-told}
 use Rattle.ladder.specs.declared.Study.the-variants.{Written}
 use Rattle.pair.specs.Calls.{passes-written, written-passes}
@@ -29,7 +30,7 @@ returns : tie.Need-returns
 returns c =
     let s = c .before .before .before .before .before .before .before .before in
     let study = c .before .before .before .before .study-feeder in
-    (study .ensures .0, (study .ensures .1 .0, (passes-written (s .args .feeder .now) (s .args .out .now) _ _ (study .ensures .0) (study .ensures .1 .0), study-told _ _ _ (study .ensures .0))))
+    (study .ensures .0, (study .ensures .1 .0, (passes-written (s .args .feeder .now) (s .args .out .now) _ _ (study .ensures .0) (study .ensures .1 .0), (study-told _ _ _ (study .ensures .0), study-points _ _ (study .ensures .0)))))
 
 sub-check : tie.Need-sub-check
 sub-check c = search needs
@@ -81,7 +82,7 @@ returns-3 c =
     let study = c .before .before .before .before .before .before .before .before .before .before .study-feeder in
     let answer = c .before .before .before .before .before .before .answer .given in
     let e : studyOf (s .args .feeder .now) (length (s .args .out .now)) ≡ Written (answer .0 .0) (answer .0 .1 .0) = sym (study .ensures .0) ∙ answer .1 in
-    (sym e, (study .ensures .1 .0, (passes-written (s .args .feeder .now) (s .args .out .now) _ _ (sym e) (study .ensures .1 .0), study-told _ _ _ (sym e))))
+    (sym e, (study .ensures .1 .0, (passes-written (s .args .feeder .now) (s .args .out .now) _ _ (sym e) (study .ensures .1 .0), (study-told _ _ _ (sym e), study-points _ _ (sym e)))))
 
 pub study-and-check-spec : {M : Type 1} → statement M
 study-and-check-spec =

@@ -1,5 +1,5 @@
 -- `reading::read_feeder` meets its contract: what the arrays hold, as one value. Assumes nothing.
-use Rattle.reading.specs.Reading.{as-told, into-as}
+use Rattle.reading.specs.Reading.{as-points, as-told, into-as}
 use borrow.Author.Needs.{needs}
 use Rattle.reading.proofs.read_feeder.Statement.{statement}
 use Rattle.reading.proofs.read_feeder.Tie as tie
@@ -16,7 +16,7 @@ loads-of-requires c κs = search needs
 returns : tie.Need-returns
 returns c =
     let h = into-as (c .before .before .before .before .before .before .read-into .ensures) (c .before .before .branches-of .ensures) (c .loads-of .ensures) in
-    (h, as-told h)
+    (h, (as-told h, as-points _ h))
 
 pub read-feeder-spec : {M : Type 1} → statement M
 read-feeder-spec =

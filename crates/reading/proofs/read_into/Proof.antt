@@ -7,7 +7,8 @@ use Rattle.feeder.specs.Layout.{layout}
 use Rattle.feeder.specs.RowFacts.{few-branches, few-loads}
 use Rattle.reading.specs.Laid.{laid-rows, read-bad, read-laid, read-long}
 use Rattle.reading.specs.Reading.{into-refused, into-same}
-use Rattle.reading.specs.Stages.{from11, from20, goes-on, stopped}
+use Rattle.feeder.specs.Stages.{from11, from20}
+use Rattle.reading.specs.Stages.{goes-on, stopped}
 use Rattle.tables.specs.LayoutLaws.{Laid, laid, unlaid}
 use Rattle.tables.specs.declared.LayoutEnd.the-variants.{Good}
 use borrow.Author.Tests.{le-ltb, lt-ltb}

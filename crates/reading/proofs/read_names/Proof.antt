@@ -6,7 +6,8 @@ use Rattle.feeder.specs.Layout.{Rows}
 use Rattle.names.specs.NumberedLaws.{from-known}
 use Rattle.reading.specs.Laid.{branches-are, count-in, numbered, rows-in}
 use Rattle.reading.specs.Reading.{NumberedIn, RowsIn, into-refused, into-same}
-use Rattle.reading.specs.Stages.{from20, from21, from22, goes-on, stopped}
+use Rattle.feeder.specs.Stages.{from20, from21, from22}
+use Rattle.reading.specs.Stages.{goes-on, stopped}
 use native.Mathlib.Omega.{arith}
 use borrow.Author.Needs.{needs}
 use Rattle.reading.proofs.read_names.Statement.{statement}

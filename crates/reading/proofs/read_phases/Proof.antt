@@ -6,7 +6,8 @@ use Rattle.feeder.specs.Feeder.{feederOf, nodesOf, notZero, phaseAbsent}
 use Rattle.feeder.specs.Layout.{Rows}
 use Rattle.reading.specs.Laid.{branches-are, count-is, held-in, loads-are, rows-are}
 use Rattle.reading.specs.Reading.{NumberedIn, into-refused, into-same}
-use Rattle.reading.specs.Stages.{from23, from24, goes-on, stopped}
+use Rattle.feeder.specs.Stages.{from23, from24}
+use Rattle.reading.specs.Stages.{goes-on, stopped}
 use borrow.Author.Needs.{needs}
 use Rattle.reading.proofs.read_phases.Statement.{statement}
 use Rattle.reading.proofs.read_phases.Tie as tie

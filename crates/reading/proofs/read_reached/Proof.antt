@@ -11,7 +11,8 @@ use Rattle.names.specs.NumberedLaws.{parent-at}
 use Rattle.radial.specs.First.{all-placed, lost-is-not-reached}
 use Rattle.reading.specs.Laid.{arranged, branches-are, rows-are}
 use Rattle.reading.specs.Reading.{NumberedIn, into-refused, into-same}
-use Rattle.reading.specs.Stages.{from22, from23, goes-on, stopped}
+use Rattle.feeder.specs.Stages.{from22, from23}
+use Rattle.reading.specs.Stages.{goes-on, stopped}
 use native.Mathlib.Omega.{arith}
 use borrow.Author.Needs.{needs}
 use Rattle.reading.proofs.read_reached.Statement.{statement}

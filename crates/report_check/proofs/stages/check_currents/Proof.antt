@@ -10,7 +10,9 @@ use Rattle.deviations.specs.Deviations.{firstOff}
 use Rattle.report.specs.Report.{Reported}
 use Rattle.compare.specs.Differences.{currentDiffers}
 use Rattle.report_check.specs.Check.{voltageOff}
-use Rattle.report_check.specs.CheckStages.{fails-at, from53, from54, from55, goes-on, workedAt}
+use Rattle.report_check.specs.CheckChain.{from53, from54, from55}
+use Rattle.report_check.specs.CheckStages.{fails-at, goes-on}
+use Rattle.report_check.specs.ReportFaults.{workedCurrents}
 use Rattle.report_check.specs.InHand.{Compared, InHand, off-held}
 use Rattle.report_reader.specs.Read.{ReportRead}
 use Rattle.sweeps.specs.SweepsLaws.{ready}
@@ -30,11 +32,11 @@ abbrev Works : tie.Start → Feeder → Reported → ReportRead → Type 0
 Works s f x t = let a = s .args in InHand f x (network s) t (threesOf (a .i .now)) (a .drawn)
 
 -- 53
-differs-is : (c : tie.After-first-current-differs) (f : Feeder) (x : Reported) (t : ReportRead) → Reads (c .before) t → Works (c .before) f x t → c .first-current-differs .result ≡ currentDiffers f x (workedAt f x)
-differs-is c f x t e h = c .first-current-differs .ensures f x t (workedAt f x) (h .read) (h .held .rows) (e .currents-are) (h .currents-are)
+differs-is : (c : tie.After-first-current-differs) (f : Feeder) (x : Reported) (t : ReportRead) → Reads (c .before) t → Works (c .before) f x t → c .first-current-differs .result ≡ currentDiffers f x (workedCurrents f x)
+differs-is c f x t e h = c .first-current-differs .ensures f x t (workedCurrents f x) (h .read) (h .held .rows) (e .currents-are) (h .currents-are)
 
 -- 54
-off-is : (c : tie.After-compare-pass) (f : Feeder) (x : Reported) (t : ReportRead) → Reads (c .before .before .before .before .before) t → Works (c .before .before .before .before .before) f x t → c .compare-pass .result ≡ voltageOff f x (voltages f (workedAt f x))
+off-is : (c : tie.After-compare-pass) (f : Feeder) (x : Reported) (t : ReportRead) → Reads (c .before .before .before .before .before) t → Works (c .before .before .before .before .before) f x t → c .compare-pass .result ≡ voltageOff f x (voltages f (workedCurrents f x))
 off-is c f x t e h =
     let s = c .before .before .before .before .before in
     let a = s .args in

@@ -9,7 +9,8 @@ use Rattle.feeder.specs.declared.Network.{Network}
 use Rattle.report.specs.Report.{Reported}
 use Rattle.compare.specs.Differences.{nameDiffers, sourceDiffers}
 use Rattle.report_check.specs.Check.{verdictOf}
-use Rattle.report_check.specs.CheckStages.{compared-is, fails-at, from30, from52, goes-on}
+use Rattle.report_check.specs.CheckChain.{compared-is, from30, from52}
+use Rattle.report_check.specs.CheckStages.{fails-at, goes-on}
 use Rattle.report_check.specs.InHand.{comparable, parents-in}
 use Rattle.report_reader.specs.Read.{ReportHeld, ReportRead, reportRead}
 use borrow.Author.Needs.{needs}

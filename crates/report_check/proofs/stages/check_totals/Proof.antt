@@ -10,7 +10,9 @@ use Rattle.feeder.specs.declared.Network.{Network}
 use Rattle.passes.specs.Arrays.{held-in}
 use Rattle.report.specs.Report.{Reported, reportedVoltages}
 use Rattle.compare.specs.Differences.{totalDiffers}
-use Rattle.report_check.specs.CheckStages.{fails-if, from55, passes, workedAt}
+use Rattle.report_check.specs.CheckChain.{from55}
+use Rattle.report_check.specs.CheckStages.{fails-if, passes}
+use Rattle.report_check.specs.ReportFaults.{workedCurrents}
 use Rattle.report_check.specs.InHand.{InHand, Totalled, losses-held, lost-held, sent-held}
 use Rattle.report_reader.specs.Read.{ReportRead}
 use Rattle.sweeps.specs.SweepsLaws.{ready, source-fits}
@@ -27,7 +29,7 @@ start c = c .before .before .before .before .before .before .before
 
 -- 55
 totals-is : (c : tie.After-totals-differ) (f : Feeder) (x : Reported) (t : ReportRead) → let a = start c .args in
-    Totalled (pairsOf (a .losses .now)) (a .totals .now) t → InHand f x (network (start c)) t (threesOf (a .i .now)) (a .drawn) → c .totals-differ .result ≡ totalDiffers f x (reportedVoltages x) (workedAt f x)
+    Totalled (pairsOf (a .losses .now)) (a .totals .now) t → InHand f x (network (start c)) t (threesOf (a .i .now)) (a .drawn) → c .totals-differ .result ≡ totalDiffers f x (reportedVoltages x) (workedCurrents f x)
 totals-is c f x t e h =
     let p = c .before .before .before .before .before in
     let s = start c in
@@ -36,7 +38,7 @@ totals-is c f x t e h =
     let i = threesOf (a .i .now) in
     let each = pairsOf (p .loss-pass .last .1 .1 .1 .0) in
     let k = p .loss-pass .ensures .0 f (held-in (h .held)) in
-    c .totals-differ .ensures f x t (reportedVoltages x) (workedAt f x) (h .read) (h .held .rows) (e .losses-are)
+    c .totals-differ .ensures f x t (reportedVoltages x) (workedCurrents f x) (h .read) (h .held .rows) (e .losses-are)
     (losses-held f x g t i (a .drawn) h each (p .loss-pass .result) k)
     (e .totals-are)
     (sent-held f x g t i (a .drawn) h _ (c .before .before .power .ensures ∙ ap (power (a .settings .source)) (c .before .before .before .three-at .ensures)))
