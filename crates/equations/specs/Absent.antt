@@ -8,14 +8,12 @@ use lib.Dec.{eqb}
 use lib.IntN.{natAbs, negsuc, pos, ℤ}
 use lib.ListN.{getD}
 use borrow.Author.Tests.{eqb-true, leb-true, not-false}
-use Rattle.answers.specs.Answers.{good}
 use Rattle.equations.specs.Equations.{at, loadCurrent, nearCurrent, signAt, zero3}
 use Rattle.equations.specs.Meets.{at-taken, takenAt}
 use Rattle.equations.specs.Sizes.{none-of}
 use Rattle.equations.specs.ThreeLaws.{at-masked, csum-none}
-use Rattle.feeder.specs.Feeder.{Feeder, branchAt, has, parent, phaseSigns, phasesOf, reading, rowCount, rowsOf, standsOn}
-use Rattle.feeder.specs.FeederLaws.{sound}
-use Rattle.feeder.specs.RowFacts.{OfLoad, branch-facts, load-facts}
+use Rattle.feeder.specs.Feeder.{Feeder, branchAt, has, parent, phaseSigns, phasesOf, rowCount, rowsOf, standsOn}
+use Rattle.feeder.specs.RowFacts.{Formed, OfLoad}
 use Rattle.feeder.specs.declared.Load.{Load}
 use Rattle.feeder.specs.declared.Phase.{Phase}
 use Rattle.feeder.specs.declared.Phase.the-variants.{A, B, C}
@@ -57,7 +55,7 @@ only-there n m x h = go (eqb n m) refl
 masked-off : (c : Bool) (x : Pair) → c ≡ false → cond c x 0c ≡ 0c
 masked-off c x e = rw e
 
-module _ (s : List ℕ) (f : Feeder) (e : reading s ≡ good f) (v i : List Three) (j : ℕ) (p : Phase) (n : has (branchAt f (suc j) .phases) p ≡ false) where
+module _ (f : Feeder) (w : Formed f) (v i : List Three) (j : ℕ) (p : Phase) (n : has (branchAt f (suc j) .phases) p ≡ false) where
   load-none : (l : Load) → OfLoad f l → cond (eqb (l .node) (suc j)) (scaled (signAt (phaseSigns (l .phase)) p) (loadCurrent v l)) 0c ≡ 0c
   unfolding phasesOf
   load-none l o = only-there (l .node) (suc j) _ (λ z. sign-off (l .phase) p _ (not-there _ (has (phasesOf f (l .node)) p) (o .there p) (rw z n)))
@@ -67,12 +65,12 @@ module _ (s : List ℕ) (f : Feeder) (e : reading s ≡ good f) (v i : List Thre
   branch-none k q = only-there (parent f (suc k)) (suc j) _ (λ z. at-masked (branchAt f (suc k) .phases) _ p ∙ masked-off (has (branchAt f (suc k) .phases) p) _ (away z (has (branchAt f (suc k) .phases) p) refl))
     where
       away : parent f (suc k) ≡ suc j → (c : Bool) → has (branchAt f (suc k) .phases) p ≡ c → c ≡ false
-      away z true h = let y : has (phasesOf f (suc j)) p ≡ true = rw z at (branch-facts s f (sound s f e) k q .under p h) in clash (has (branchAt f (suc j) .phases) p) y n
+      away z true h = let y : has (phasesOf f (suc j)) p ≡ true = rw z at (w .branches k q .under p h) in clash (has (branchAt f (suc j) .phases) p) y n
       away z false h = refl
 
-  -- of every feeder that is read
+  -- of every feeder that has the form of one
   pub absent-none : at (takenAt f v i (suc j)) p ≡ 0c
   absent-none = at-taken f v i (suc j) p ∙ ap₂ _+c_
-      (csum-none _ (f .loads) (all-map (f .loads) load-none (load-facts s f (sound s f e))))
+      (csum-none _ (f .loads) (all-map (f .loads) load-none (w .loads)))
       (csum-none _ (rowsOf f) (all-count _ 1 (rowCount f) (λ k q. let z : 1 + k ≡ suc k = omega arith in rw z (branch-none k q))))
       ∙ +c-idr 0c

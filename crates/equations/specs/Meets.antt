@@ -1,4 +1,4 @@
--- Of every feeder that is read: each worked voltage comes from the one above it, and each worked current from the load currents and the J below it. Assumes nothing.
+-- Of every feeder that has the form of one: each worked voltage comes from the one above it, and each worked current from the load currents and the J below it. Assumes nothing.
 use mathlib.Core.Bool.{cond}
 use mathlib.Core.List.{List}
 use mathlib.Core.Path.{_∙_, _≡_, ap, ap₂, sym}
@@ -6,13 +6,12 @@ use Prim.Native.Nat.{_+_, _<_, suc, ℕ}
 use native.Mathlib.Omega.{arith}
 use lib.Dec.{eqb}
 use lib.ListN.{getD}
-use Rattle.answers.specs.Answers.{good}
 use Rattle.equations.specs.Downward.{downward-node, downward-source}
 use Rattle.equations.specs.Equations.{at, currents, downward, farVoltage, loadCurrent, loadsAt, nearCurrent, plus3, signAt, sum3, upward, voltages, zero3}
 use Rattle.equations.specs.ThreeLaws.{at-cond, at-each, at-plus, at-sum, csum-cong, sum3-cong}
 use Rattle.equations.specs.Upward.{kirchhoff}
-use Rattle.feeder.specs.Feeder.{Feeder, branchAt, parent, phaseSigns, reading, rowCount, rowsOf}
-use Rattle.feeder.specs.FeederLaws.{Sound, all-reached, one-reached, parent-known, sound}
+use Rattle.feeder.specs.Feeder.{Feeder, branchAt, parent, phaseSigns, rowCount, rowsOf}
+use Rattle.feeder.specs.RowFacts.{Formed, all-reached}
 use Rattle.feeder.specs.declared.Phase.{Phase}
 use Rattle.feeder.specs.declared.Three.{Three}
 use Rattle.integers.specs.ListLaws.{all-count, getD-tab}
@@ -41,10 +40,7 @@ taken-same f v i j m h =
     (λ b w. ap (λ x. cond (eqb (parent f b) m) (nearCurrent (branchAt f b) x) zero3) w)
     (all-count _ 1 (rowCount f) (λ k q. let z : 1 + k ≡ suc k = omega arith in rw z (h k q))))
 
-module _ (s : List ℕ) (f : Feeder) (e : reading s ≡ good f) where
-  w : Sound s f
-  w = sound s f e
-
+module _ (f : Feeder) (w : Formed f) where
   -- "V_m from V_n", for any I
   pub voltages-meet : (i : List Three) (k : ℕ) → k < rowCount f → getD (voltages f i) (suc k) zero3 ≡ farVoltage (branchAt f (suc k)) (getD (voltages f i) (parent f (suc k)) zero3) (getD i (suc k) zero3)
   unfolding voltages
@@ -52,7 +48,7 @@ module _ (s : List ℕ) (f : Feeder) (e : reading s ≡ good f) where
       let step : ℕ → Three → Three = λ m u. farVoltage (branchAt f m) u (getD i m zero3) in
       let at : (j : ℕ) → j < suc (rowCount f) → getD (tab (λ k. downward step (f .source) (parent f) (rowCount f) k) 0 (suc (rowCount f))) j zero3 ≡ downward step (f .source) (parent f) (rowCount f) j
       = λ j h. getD-tab (λ k. downward step (f .source) (parent f) (rowCount f) k) 0 (suc (rowCount f)) j zero3 h ∙ (let z : 0 + j ≡ j = omega arith in rw z) in
-      at (suc k) (omega arith) ∙ downward-node step (f .source) (parent f) (rowCount f) k (one-reached s f w k q .steps) ∙ ap (step (suc k)) (sym (at (parent f (suc k)) (parent-known s f w (suc k) (omega arith))))
+      at (suc k) (omega arith) ∙ downward-node step (f .source) (parent f) (rowCount f) k (w .reached (suc k) (omega arith)) ∙ ap (step (suc k)) (sym (at (parent f (suc k)) (w .parents (suc k) (omega arith))))
 
   -- at the source, its own voltage
   pub voltages-source : (i : List Three) → getD (voltages f i) 0 zero3 ≡ f .source
@@ -67,7 +63,7 @@ module _ (s : List ℕ) (f : Feeder) (e : reading s ≡ good f) where
       let at : (j : ℕ) → j < suc (rowCount f) → getD all j zero3 ≡ upward f (loadsAt f v) (rowCount f) j
       = λ j h. getD-tab (upward f (loadsAt f v) (rowCount f)) 0 (suc (rowCount f)) j zero3 h ∙ (let z : 0 + j ≡ j = omega arith in rw z) in
       let row : (ℕ → Three) → ℕ → Three = λ x b. cond (eqb (parent f b) m) (nearCurrent (branchAt f b) (x b)) zero3 in
-      at m q ∙ kirchhoff f (loadsAt f v) (all-reached s f w) m
+      at m q ∙ kirchhoff f (loadsAt f v) (all-reached f w) m
       ∙ ap (plus3 (loadsAt f v m)) (sum3-cong (λ b. getD all b zero3 ≡ upward f (loadsAt f v) (rowCount f) b) (row (upward f (loadsAt f v) (rowCount f))) (row (λ b. getD all b zero3)) (rowsOf f)
       (λ b w. ap (λ x. cond (eqb (parent f b) m) (nearCurrent (branchAt f b) x) zero3) (sym w))
       (all-count _ 1 (rowCount f) (λ k h. let z : 1 + k ≡ suc k = omega arith in rw z (at (suc k) (omega arith)))))

@@ -11,15 +11,14 @@ use Rattle.answers.specs.AnswerLaws.{bound, not-at, not-if, same-good}
 use Rattle.answers.specs.Answers.{_>>=_, _>>_, good}
 use Rattle.answers.specs.declared.Found.the-variants.{Nothing}
 use Rattle.answers.specs.declared.Refusal.the-variants.{TooLong}
-use Rattle.feeder.specs.Feeder.{Feeder, above, branchAt, branchOf, feederOf, known, noBranch, nodesOf, notReached, notZero, outOfLimit, parent, phaseAbsent, placeOf, reading, rowCount, rowsOf, secondTo, tooLong, unknownFrom}
+use Rattle.feeder.specs.Feeder.{Feeder, above, branchAt, branchOf, feederOf, known, noBranch, nodesOf, notReached, notZero, outOfLimit, parent, phaseAbsent, placeOf, reading, rowCount, secondTo, tooLong, unknownFrom}
 use Rattle.feeder.specs.Layout.{Rows, layout}
 use Rattle.feeder.specs.Reach.{reach-enough}
 use Rattle.feeder.specs.RowLaws.{none-bad, none-found}
 use Rattle.feeder.specs.Stages.{from11, from20, from21, from22, from23, from24}
 use Rattle.feeder.specs.declared.Branch.{Branch}
 use Rattle.feeder.specs.declared.BranchRow.{BranchRow}
-use Rattle.integers.specs.ListLaws.{all-count, getD-map}
-use Rattle.integers.specs.Lists.{All}
+use Rattle.integers.specs.ListLaws.{getD-map}
 
 pub record Sound (s : List ℕ) (f : Feeder) : Type 0 where
   pub rows : Rows
@@ -79,9 +78,6 @@ one-reached s f w = subst (λ (g : Feeder). (i : ℕ) → i < rowCount g → Rea
         let z : 1 + i ≡ suc i = omega arith in
         let h : not (eqb (above (parent g) (rowCount g) (1 + i)) 0) ≡ false = none-bad (λ k b. not (eqb (above (parent g) (rowCount g) k) 0)) 4 1 (w .rows .branches) d (w .t22) i n in
         record { row = omega arith; steps = eqb-true _ _ (not-false _ (rw z at h)) }
-
-pub all-reached : (s : List ℕ) (f : Feeder) → Sound s f → All (Reached f) (rowsOf f)
-all-reached s f w = all-count (Reached f) 1 (rowCount f) (λ i q. let z : 1 + i ≡ suc i = omega arith in rw z (one-reached s f w i q))
 
 -- every node, the source too, is at or below the source
 pub node-reached : (s : List ℕ) (f : Feeder) → Sound s f → (k : ℕ) → k < suc (rowCount f) → above (parent f) (rowCount f) k ≡ 0

@@ -11,8 +11,8 @@ use lib.ListN.{List·getD-eq-default, getD, length}
 use lib.Signed.{leZ}
 use borrow.Author.Tests.{leb-false, leb-true, not-false}
 use Rattle.answers.specs.declared.Found.the-variants.{Nothing}
-use Rattle.feeder.specs.Feeder.{Feeder, allOf, allPhases, between, branchAt, branchIn, branchOf, columnOf, deviceOf, feederOf, has, inLimit, loadIn, loadOf, noBranch, noPhases, nodesOf, outOfLimit, parent, phaseAbsent, phasesOf, placeOf, rowCount, standsOn, threePhase, vnMost}
-use Rattle.feeder.specs.FeederLaws.{Sound, branch-is, row-count, rowOf}
+use Rattle.feeder.specs.Feeder.{Feeder, above, allOf, allPhases, between, branchAt, branchIn, branchOf, columnOf, deviceOf, feederOf, has, inLimit, loadIn, loadOf, noBranch, noPhases, nodesOf, outOfLimit, parent, phaseAbsent, phasesOf, placeOf, rowCount, rowsOf, standsOn, threePhase, vnMost}
+use Rattle.feeder.specs.FeederLaws.{Reached, Sound, branch-is, node-reached, parent-known, row-count, rowOf}
 use Rattle.feeder.specs.Layout.{Rows}
 use Rattle.feeder.specs.RowLaws.{each-true, none-bad, or-none}
 use Rattle.feeder.specs.declared.Branch.{Branch}
@@ -29,7 +29,7 @@ use Rattle.feeder.specs.declared.Phases.{Phases}
 use Rattle.feeder.specs.declared.Terminals.{Terminals}
 use Rattle.feeder.specs.declared.Terminals.the-variants.{AB, BC, CA, OnA, OnB, OnC}
 use Rattle.integers.specs.Bools.{both, clash}
-use Rattle.integers.specs.ListLaws.{all-image, at-all, count-true}
+use Rattle.integers.specs.ListLaws.{all-count, all-image, at-all, count-true}
 use Rattle.integers.specs.Lists.{All}
 use Rattle.integers.specs.Pairs.{inside}
 use Rattle.integers.specs.Whole.{abs-parts, add-parts, leZ-true, neg-neg, pos-neg, zarith}
@@ -184,3 +184,17 @@ load-node f l o = go (l .phase) (o .there)
     go AB h = node-in f (l .node) A (h A refl)
     go BC h = node-in f (l .node) B (h B refl)
     go CA h = node-in f (l .node) C (h C refl)
+
+-- ---- a feeder's form, whatever text it was read from: a tree of nodes, with what 11 and 23 give of its rows
+pub record Formed (f : Feeder) : Type 0 where
+  pub parents : (k : ℕ) → k < suc (rowCount f) → parent f k < suc (rowCount f)
+  pub reached : (k : ℕ) → k < suc (rowCount f) → above (parent f) (rowCount f) k ≡ 0
+  pub branches : (k : ℕ) → k < rowCount f → OfBranch f (branchAt f (suc k))
+  pub loads : All (OfLoad f) (f .loads)
+
+pub formed : (s : List ℕ) (f : Feeder) → Sound s f → Formed f
+formed s f w = record { parents = parent-known s f w; reached = node-reached s f w; branches = branch-facts s f w; loads = load-facts s f w }
+
+-- 22, over the list of the rows
+pub all-reached : (f : Feeder) → Formed f → All (Reached f) (rowsOf f)
+all-reached f w = all-count (Reached f) 1 (rowCount f) (λ k q. let z : 1 + k ≡ suc k = omega arith in rw z (record { row = omega arith; steps = w .reached (suc k) (omega arith) }))

@@ -21,7 +21,7 @@ use Rattle.ladder.specs.Stages.{fitted-is, fittedFrom, fittedWith, textOf}
 use Rattle.ladder.specs.Study.{Report, fitted, report, studyOf}
 use Rattle.ladder.specs.StudyLaws.{refused-from, study-good}
 use Rattle.ladder.specs.declared.Study.the-variants.{NoReport, Written}
-use Rattle.pair.specs.SolutionSizes.{solution-writable}
+use Rattle.pair.specs.SolutionSizes.{read-writable}
 use Rattle.report.specs.RoundTrip.{report-short}
 
 -- 30 to 34: the number of the sweep, at most the limit
@@ -30,7 +30,7 @@ solution-up-to f p = solution-only f p (λ j q. record { for-30 = omega arith; f
 
 -- the report's length, which 40 returns
 text-short : (s : List ℕ) (f : Feeder) (x : Solution) → reading s ≡ good f → solution f ≡ good x → length (textOf f x) ≤ 65536
-text-short s f x e g = ltb-false 65536 _ (report-short f (x .voltages) (x .currents) (x .sweeps) (solution-writable s f x e (solved f x g)))
+text-short s f x e g = ltb-false 65536 _ (report-short f (x .voltages) (x .currents) (x .sweeps) (read-writable s f x e (solved f x g)))
 
 fitted-up-to : (s : List ℕ) (n : ℕ) → UpTo 131078 (fitted s n)
 unfolding fittedFrom fittedWith

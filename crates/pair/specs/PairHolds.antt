@@ -15,6 +15,8 @@ use Rattle.equations.specs.Equations.{at, currents, farVoltage, voltages, zero3
 use Rattle.equations.specs.Meets.{voltages-meet, voltages-source}
 use Rattle.equations.specs.ThreeLaws.{Close3, at-masked}
 use Rattle.feeder.specs.Feeder.{Feeder, branchAt, has, parent, phasesOf, reading, rowCount}
+use Rattle.feeder.specs.FeederLaws.{sound}
+use Rattle.feeder.specs.RowFacts.{Formed, formed}
 use Rattle.feeder.specs.RowLaws.{none-found, none-nodes, none-or}
 use Rattle.feeder.specs.declared.Phase.{Phase}
 use Rattle.feeder.specs.declared.Phase.the-variants.{A, B, C}
@@ -28,7 +30,7 @@ use Rattle.iteration.specs.Ladder.{Solution, solution}
 use Rattle.iteration.specs.LadderLaws.{Solved, settled-close, solved}
 use Rattle.ladder.specs.Study.{Report, report}
 use Rattle.pair.specs.Pair.{PairLaw}
-use Rattle.pair.specs.SolutionSizes.{solution-writable}
+use Rattle.pair.specs.SolutionSizes.{read-writable}
 use Rattle.report.specs.Report.{Reported, reportText, reportedVoltages}
 use Rattle.report.specs.RoundTrip.{Writable, branch-count, branch-row, node-row, report-read, report-short, reportRows, reported-current, reported-loss, reported-totals, reported-voltages, rowOfBranch, rowOfNode}
 use Rattle.compare.specs.Differences.{nameAtNode, nameDiffers, noRow}
@@ -42,7 +44,7 @@ use Rattle.text.specs.Lines.{Row, wordOf}
 close-self : {tol : ℕ} {x y : Pair} → x ≡ y → Close tol x y
 close-self {x = x} {y = y} e = rw e (record { re = rw (+ℤ-invr (y .re)) (omega arith); im = rw (+ℤ-invr (y .im)) (omega arith) })
 
-module _ (s : List ℕ) (f : Feeder) (x : Solution) (e : reading s ≡ good f) (w : Solved f x) where
+module _ (f : Feeder) (x : Solution) (form : Formed f) (w : Solved f x) where
   abbrev v : List Three
   v = x .voltages
 
@@ -80,12 +82,12 @@ module _ (s : List ℕ) (f : Feeder) (x : Solution) (e : reading s ≡ good f) (
   absent-zero zero q B n = clash true refl n
   absent-zero zero q C n = clash true refl n
   absent-zero (suc k) q p n =
-      rw (w .voltages-are, voltages-meet s f e (w .before) k (omega arith)) (at-masked (branchAt f (suc k) .phases) _ p ∙ rw n)
+      rw (w .voltages-are, voltages-meet f form (w .before) k (omega arith)) (at-masked (branchAt f (suc k) .phases) _ p ∙ rw n)
 
   -- 54: the voltages worked from the reported I are V(k), and no one moved more than tol
   all-settled : (k : ℕ) → k < suc (rowCount f) → Close3 (f .tol) (getD (voltages f i) k zero3) (getD v k zero3)
   all-settled zero q p =
-      let equal : getD (voltages f i) 0 zero3 ≡ getD v 0 zero3 = voltages-source s f e i ∙ sym (ap (λ (l : List Three). getD l 0 zero3) (w .voltages-are) ∙ voltages-source s f e (w .before)) in
+      let equal : getD (voltages f i) 0 zero3 ≡ getD v 0 zero3 = voltages-source f form i ∙ sym (ap (λ (l : List Three). getD l 0 zero3) (w .voltages-are) ∙ voltages-source f form (w .before)) in
       close-self (ap (λ (y : Three). at y p) equal)
   all-settled (suc k) q p = settled-close f v (voltages f i) (w .stopped) k (omega arith) p
 
@@ -103,7 +105,7 @@ module _ (s : List ℕ) (f : Feeder) (x : Solution) (e : reading s ≡ good f) (
   pub report-meets : Passed f r
   report-meets = record {
     t51 = names-same;
-    t52 = meets52 f r (rw (voltages-back, w .voltages-are) (voltages-source s f e (w .before))) (λ k q p n. rw voltages-back (absent-zero k q p n));
+    t52 = meets52 f r (rw (voltages-back, w .voltages-are) (voltages-source f form (w .before))) (λ k q p n. rw voltages-back (absent-zero k q p n));
     t30 = rw voltages-back (w .t30);
     t31 = rw voltages-back (w .t31);
     t32 = rw currents-back (w .t32);
@@ -122,7 +124,7 @@ pair-law s t e =
     let b = bound (solution f) (whole f) t (a .rest) in
     let x : Solution = b .value in
     let w : Solved f x = solved f x (b .came) in
-    let k : Writable f (x .voltages) (x .currents) (x .sweeps) = solution-writable s f x (a .came) w in
+    let k : Writable f (x .voltages) (x .currents) (x .sweeps) = read-writable s f x (a .came) w in
     subst (λ (t : Report). checkOf s (t .text) ≡ Pass) (same-good _ t (b .rest))
     (found-passes s (reportText f (x .voltages) (x .currents) (x .sweeps)) (record {
       t9 = report-short f (x .voltages) (x .currents) (x .sweeps) k;
@@ -130,5 +132,5 @@ pair-law s t e =
       report = reportRows f (x .voltages) (x .currents) (x .sweeps);
       feeder-read = a .came;
       report-read = report-read f (x .voltages) (x .currents) (x .sweeps) k;
-      met = report-meets s f x (a .came) w;
+      met = report-meets f x (formed s f (sound s f (a .came))) w;
     }))

@@ -16,15 +16,17 @@ use Rattle.equations.specs.SumSizes.{csum-within, sum3-within}
 use Rattle.feeder.specs.Feeder.{Feeder, branchAt, parent, phaseSigns, reading, rowCount, rowsOf}
 use Rattle.feeder.specs.FeederLaws.{sound}
 use Rattle.feeder.specs.ProperNames.{node-proper}
+use Rattle.feeder.specs.RowFacts.{Formed, formed}
 use Rattle.feeder.specs.declared.Three.{Three}
 use Rattle.integers.specs.Bools.{clash}
 use Rattle.integers.specs.ListLaws.{all-count, all-map, all-map2, any-false, length-tab, tab-all}
-use Rattle.integers.specs.Lists.{any, count, All}
+use Rattle.integers.specs.Lists.{All, any, count}
 use Rattle.integers.specs.PairLaws.{Within, within-more}
 use Rattle.integers.specs.Pairs.{_·*_, scaled}
 use Rattle.iteration.specs.Ladder.{Solution}
 use Rattle.iteration.specs.LadderLaws.{Solved}
 use Rattle.report.specs.RoundTrip.{Writable}
+use Rattle.text.specs.Text.{Proper}
 
 -- what 32 and 33 say of each row
 row-false : (f : ℕ → Bool) (n : ℕ) → any f (count 1 n) ≡ false → (j : ℕ) → j < n → f (suc j) ≡ false
@@ -40,15 +42,12 @@ within3-cond : {m : ℕ} {x : Three} (c : Bool) → Within3 m x → Within3 m (c
 within3-cond true h = h
 within3-cond false h = within3-zero
 
-module _ (s : List ℕ) (f : Feeder) (x : Solution) (e : reading s ≡ good f) (w : Solved f x) where
+module _ (f : Feeder) (x : Solution) (limits : Fit f) (form : Formed f) (names : (j : ℕ) → j < suc (rowCount f) → Proper (getD (f .nodes) j 0)) (w : Solved f x) where
   abbrev v : List Three
   v = x .voltages
 
   abbrev i : List Three
   i = x .currents
-
-  limits : Fit f
-  limits = fit s f e
 
   few-rows : length (rowsOf f) ≤ 200
   unfolding count
@@ -57,7 +56,7 @@ module _ (s : List ℕ) (f : Feeder) (x : Solution) (e : reading s ≡ good f) (
   -- ---- voltages and currents: the source's limit, 31, 32 and 33
   voltages-in : (j : ℕ) → j < suc (rowCount f) → Within3 2000000 (getD v j zero3)
   unfolding voltageBeyond
-  voltages-in zero q = rw (w .voltages-are, voltages-source s f e (w .before)) (limits .source)
+  voltages-in zero q = rw (w .voltages-are, voltages-source f form (w .before)) (limits .source)
   voltages-in (suc j) q = beyond3-false (row-false (λ k. beyond3 (getD v k zero3)) (rowCount f) (w .t33) j (omega arith))
 
   rows-in : (j : ℕ) → j < rowCount f → Within3 2000000 (getD i (suc j) zero3) × Within3 2000000 (nearCurrent (branchAt f (suc j)) (getD i (suc j) zero3))
@@ -87,7 +86,7 @@ module _ (s : List ℕ) (f : Feeder) (x : Solution) (e : reading s ≡ good f) (
   -- all that is taken at the source: 300 load rows and 200 branches
   taken-in : Within3 1000000000 (getD i 0 zero3)
   unfolding takenAt loadsAt
-  taken-in = rw (w .currents-are, currents-meet s f e v 0 (omega arith), ← w .currents-are) (within3-plus
+  taken-in = rw (w .currents-are, currents-meet f form v 0 (omega arith), ← w .currents-are) (within3-plus
       (sum3-within 300 2000000 (λ l. cond (eqb (l .node) 0) (each (λ p. scaled (signAt (phaseSigns (l .phase)) p) (loadCurrent v l))) zero3) (f .loads) (limits .few-loads)
       (all-map (f .loads) (λ l h. within3-cond (eqb (l .node) 0) (spread-within (l .phase) h)) loads-in))
       (sum3-within 200 2000000 (λ b. cond (eqb (parent f b) 0) (nearCurrent (branchAt f b) (getD i b zero3)) zero3) (rowsOf f) few-rows
@@ -100,7 +99,7 @@ module _ (s : List ℕ) (f : Feeder) (x : Solution) (e : reading s ≡ good f) (
   -- ---- all that the report asks
   pub solution-writable : Writable f v i (x .sweeps)
   solution-writable = record {
-    names = node-proper s f (sound s f e);
+    names = names;
     parents = limits .parents;
     voltages = voltages-in;
     currents = λ j q. rows-in j q .0;
@@ -113,3 +112,7 @@ module _ (s : List ℕ) (f : Feeder) (x : Solution) (e : reading s ≡ good f) (
     few-sweeps = limits .few-sweeps;
     few-rows = limits .few-rows;
   }
+
+-- of a feeder that is read
+pub read-writable : (s : List ℕ) (f : Feeder) (x : Solution) → reading s ≡ good f → Solved f x → Writable f (x .voltages) (x .currents) (x .sweeps)
+read-writable s f x e w = solution-writable f x (fit s f e) (formed s f (sound s f e)) (node-proper s f (sound s f e)) w

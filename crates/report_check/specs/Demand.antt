@@ -8,14 +8,13 @@ use lib.ListN.{getD}
 use Rattle.account.specs.Account.{PowerAccount}
 use Rattle.account.specs.AccountLaw.{BranchKnown, Known, LoadKnown, account-law}
 use Rattle.account.specs.Powers.{reactive, real}
-use Rattle.answers.specs.Answers.{good}
 use Rattle.equations.specs.Absent.{absent-none}
 use Rattle.equations.specs.Equations.{at, currents, farVoltage, kindAt, needsVoltage, power, sourcePower, voltageOn, voltages, zero3, zeroVoltage}
 use Rattle.equations.specs.Meets.{currents-meet, taken-same, takenAt, voltages-meet, voltages-source}
 use Rattle.equations.specs.Weight.{weight-pos}
-use Rattle.feeder.specs.Feeder.{Feeder, branchAt, parent, reading, rowCount}
-use Rattle.feeder.specs.FeederLaws.{parent-known, sound}
-use Rattle.feeder.specs.RowFacts.{OfLoad, branch-facts, load-facts, load-node}
+use Rattle.feeder.specs.Feeder.{Feeder, branchAt, parent, rowCount}
+use Rattle.feeder.specs.FeederLaws.{sound}
+use Rattle.feeder.specs.RowFacts.{Formed, OfLoad, formed, load-node}
 use Rattle.feeder.specs.declared.Load.{Load}
 use Rattle.feeder.specs.declared.Three.{Three}
 use Rattle.integers.specs.ListLaws.{all-count, all-map2, any-false}
@@ -26,7 +25,7 @@ use Rattle.report_check.specs.Passed.{Passed, pass-found}
 use Rattle.report_check.specs.Tests.{all-close, currents-same, source-same, totals-same}
 use Rattle.report_check.specs.declared.Verdict.the-variants.{Pass}
 
-module _ (s : List ℕ) (f : Feeder) (r : Reported) (e : reading s ≡ good f) (h : Passed f r) where
+module _ (f : Feeder) (r : Reported) (w : Formed f) (h : Passed f r) where
   abbrev v : List Three
   v = reportedVoltages r
 
@@ -35,17 +34,17 @@ module _ (s : List ℕ) (f : Feeder) (r : Reported) (e : reading s ≡ good f) (
 
   -- all that is taken at a node, by the reported I
   taken-same-reported : (m : ℕ) → m < suc (rowCount f) → getD i m zero3 ≡ takenAt f v (reportedCurrents r) m
-  taken-same-reported m q = currents-meet s f e v m q ∙ taken-same f v i (reportedCurrents r) m (λ k w. sym (currents-same f r h k w))
+  taken-same-reported m q = currents-meet f w v m q ∙ taken-same f v i (reportedCurrents r) m (λ k y. sym (currents-same f r h k y))
 
   branch-known : (k : ℕ) → k < rowCount f → BranchKnown f v (reportedCurrents r) (voltages f i) (suc k)
   branch-known k q =
       let meets = currents-same f r h k q ∙ taken-same-reported (suc k) (omega arith) in
-      let facts = branch-facts s f (sound s f e) k q in
+      let facts = w .branches k q in
       record {
-        from-known = parent-known s f (sound s f e) (suc k) (omega arith);
+        from-known = w .parents (suc k) (omega arith);
         kirchhoff = meets;
-        worked = voltages-meet s f e i k q ∙ ap (farVoltage (branchAt f (suc k)) (getD (voltages f i) (parent f (suc k)) zero3)) (sym (currents-same f r h k q));
-        off = λ p n. ap (λ (x : Three). at x p) meets ∙ absent-none s f e v (reportedCurrents r) k p n;
+        worked = voltages-meet f w i k q ∙ ap (farVoltage (branchAt f (suc k)) (getD (voltages f i) (parent f (suc k)) zero3)) (sym (currents-same f r h k q));
+        off = λ p n. ap (λ (x : Three). at x p) meets ∙ absent-none f w v (reportedCurrents r) k p n;
         sized = facts .sized;
       }
 
@@ -57,10 +56,10 @@ module _ (s : List ℕ) (f : Feeder) (r : Reported) (e : reading s ≡ good f) (
   unfolding zeroVoltage sourcePower
   all-known = record {
     worked = voltages f i;
-    start = voltages-source s f e i ∙ sym (source-same f r h);
-    close = all-close f r h s e;
+    start = voltages-source f w i ∙ sym (source-same f r h);
+    close = all-close f r h w;
     on-branches = all-count _ 1 (rowCount f) (λ k q. let z : 1 + k ≡ suc k = omega arith in rw z (branch-known k q));
-    on-loads = all-map2 (f .loads) load-known (load-facts s f (sound s f e)) (any-false _ (f .loads) (h .t30));
+    on-loads = all-map2 (f .loads) load-known (w .loads) (any-false _ (f .loads) (h .t30));
     source = totals-same f r h .source ∙ ap₂ power (sym (source-same f r h)) (taken-same-reported 0 (omega arith));
   }
 
@@ -68,7 +67,7 @@ module _ (s : List ℕ) (f : Feeder) (r : Reported) (e : reading s ≡ good f) (
 pub demand3 : (s t : List ℕ) → checkOf s t ≡ Pass → PowerAccount s t
 demand3 s t e =
     let g = pass-found s t e in
-    let k = all-known s (g .feeder) (g .report) (g .feeder-read) (g .met) in
+    let k = all-known (g .feeder) (g .report) (formed s (g .feeder) (sound s (g .feeder) (g .feeder-read))) (g .met) in
     record {
       feeder = g .feeder;
       report = g .report;

@@ -5,19 +5,18 @@ use mathlib.Core.Path.{_≡_, ap, refl}
 use Prim.Native.Nat.{_+_, _<_, suc, ℕ}
 use lib.ListN.{getD}
 use borrow.Author.Tests.{not-false}
-use Rattle.answers.specs.Answers.{good}
 use Rattle.answers.specs.declared.Found.the-variants.{Nothing}
 use Rattle.equations.specs.Downward.{below, none-off}
 use Rattle.equations.specs.Equations.{at, currents, drawnPower, lossOf, lostPower, sourcePower, voltages, zero3}
 use Rattle.equations.specs.ThreeLaws.{Close3, three-eq}
-use Rattle.feeder.specs.Feeder.{Feeder, abc, has, parent, phasesOf, reading, rowCount, rowsOf}
-use Rattle.feeder.specs.FeederLaws.{node-reached, parent-known, sound}
+use Rattle.feeder.specs.Feeder.{Feeder, abc, has, parent, phasesOf, rowCount, rowsOf}
+use Rattle.feeder.specs.RowFacts.{Formed}
 use Rattle.feeder.specs.RowLaws.{each-true, held, nodes-none, none-nodes, none-or, none-rows, or-none, rows-none, true-each}
 use Rattle.feeder.specs.declared.Phase.{Phase}
 use Rattle.feeder.specs.declared.Three.{Three}
 use Rattle.integers.specs.Bools.{both, joined}
 use Rattle.integers.specs.ListLaws.{all-map, all-true, true-all}
-use Rattle.integers.specs.Lists.{all, All}
+use Rattle.integers.specs.Lists.{All, all}
 use Rattle.integers.specs.PairLaws.{close-true, same-true, true-close, true-same}
 use Rattle.integers.specs.Pairs.{0c, close, same}
 use Rattle.integers.specs.declared.Pair.{Pair}
@@ -55,12 +54,11 @@ module _ (f : Feeder) (r : Reported) (h : Passed f r) where
   currents-same k q = same3-true _ _ (not-false _ (rows-none (λ k. not (same3 (getD (reportedCurrents r) k zero3) (getD i k zero3))) (rowCount f + 4) (rowCount f) (h .t53) k q))
 
   -- 54: the voltages worked "with those I differ from the reported ones by at most tol in re and im", at every node
-  pub all-close : (s : List ℕ) → reading s ≡ good f → (k : ℕ) → k < suc (rowCount f) → Close3 (f .tol) (getD (voltages f i) k zero3) (getD v k zero3)
+  pub all-close : Formed f → (k : ℕ) → k < suc (rowCount f) → Close3 (f .tol) (getD (voltages f i) k zero3) (getD v k zero3)
   unfolding voltageOff belowOff below off
-  all-close s e k q p =
-      let w = sound s f e in
-      let z : off f r (voltages f i) k ≡ false = none-off (off f r (voltages f i)) (parent f) (rowCount f) (parent-known s f w) (node-reached s f w)
-      (nodes-none (λ k. off f r (voltages f i) k && not (belowOff f r (voltages f i) k)) 1 (rowCount f) (h .t54)) (rowCount f) k q (node-reached s f w k q) .0 in
+  all-close w k q p =
+      let z : off f r (voltages f i) k ≡ false = none-off (off f r (voltages f i)) (parent f) (rowCount f) (w .parents) (w .reached)
+      (nodes-none (λ k. off f r (voltages f i) k && not (belowOff f r (voltages f i) k)) 1 (rowCount f) (h .t54)) (rowCount f) k q (w .reached k q) .0 in
       close-true (each-true (λ p. close (f .tol) (at (getD (voltages f i) k zero3) p) (at (getD v k zero3) p)) (not-false _ z) p)
 
   -- 55: "losses and totals are equal"
