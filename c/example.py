@@ -2,7 +2,7 @@
 """example.py LIBRARY FEEDER [BUFFER_LENGTH]: c/example.c in Python, over the shared library LIBRARY (c/run.sh has the command that makes it).
 
 It writes what c/example.c writes, and ends as it does, but for standard output that cannot be written, which is left to Python. What the study
-answers is compared with the report: its length, and the sweeps that its last line tells."""
+answers is compared with the report: its length, and the sweeps that its table of totals tells."""
 import ctypes
 import sys
 
@@ -68,8 +68,9 @@ def main(arguments):
     if number != 0:
         assert sweeps == 0
         return refused(number, value)
-    last = report.decode("ascii").splitlines()[-1]
-    assert len(report) == value and report.endswith(b"\n") and int(last.split(",")[0]) == sweeps
+    # the totals are the third table: the empty lines part the tables, and the first line of each has its names
+    totals = report.decode("ascii").split("\n\n")[2].splitlines()[1]
+    assert len(report) == value and report.endswith(b"\n") and int(totals.split(",")[0]) == sweeps
     print(f"{report.decode('ascii')}sweeps {sweeps}")
 
     number, value = check(library, feeder, report)

@@ -1,7 +1,7 @@
 //! example FEEDER [BUFFER_LENGTH]: c/example.c in Rust, over the static library (c/run.sh has the command).
 //!
-//! It writes what c/example.c writes, and ends as it does. What the study answers is compared with the report: its length, and the sweeps that its last line
-//! tells.
+//! It writes what c/example.c writes, and ends as it does. What the study answers is compared with the report: its length, and the sweeps that its table of
+//! totals tells.
 
 use std::io::{Read, Write};
 use std::process::ExitCode;
@@ -54,7 +54,9 @@ fn run(feeder: &[u8], length: usize, out: &mut impl Write) -> std::io::Result<u8
     }
     let report = &buffer[..answer.value as usize];
     let text = std::str::from_utf8(report).expect("a report is ASCII");
-    let told = text.lines().last().and_then(|line| line.split(',').next()).expect("a report has a last line");
+    // the totals are the third table: the empty lines part the tables, and the first line of each has its names
+    let totals = text.split("\n\n").nth(2).and_then(|table| table.lines().nth(1)).expect("a report has a row of totals");
+    let told = totals.split(',').next().expect("a row has a first value");
     assert_eq!(told, answer.sweeps.to_string());
     write!(out, "{text}sweeps {}\n", answer.sweeps)?;
 

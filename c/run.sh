@@ -33,8 +33,8 @@ try() {
 }
 
 length=$(wc -c <examples/example.report)
-# the report's last line begins with its sweeps
-sweeps=$(tail -n 1 examples/example.report | cut -d , -f 1)
+# the row of the totals begins with the sweeps
+sweeps=$(grep -A1 '^sweeps,' examples/example.report | tail -n 1 | cut -d , -f 1)
 : >target/c/empty.feeder
 
 # what every example must do

@@ -3,56 +3,66 @@
 
   Opened          the names of the definitions behind the answers on one line, read from the crates' specs (no vectors); due again when a
                   definition is added
-  Refusals        for each refusal of each call the smallest case of the first file; 9 stands in TooLong and the check's 31 in ByHand, which are not
-                  written here
+  Refusals        for each refusal of each call the smallest case of the first file that has one; 9 stands in TooLong, which is not written here
   StudyReports, StudyLayout, StudyRefusals, CheckPasses, CheckRefusals
-                  of each file of cases every tenth case whose files are under 3,000 bytes together, spread over the kinds of answer
+                  of each file of cases but S-5's every fifteenth case whose files are under 3,000 bytes together, spread over the kinds of answer
   SeveralRows     of S-4's cases some in which several rows have the fault, at least one for each number that comes with a line but 10
-  Accounts        the power account's numbers for every tenth passing case of each file, worked out here a second time from documents 01 and 02;
-                  where the file has the account's numbers, they must be the same for every case
+  TapStudies, TapChecks
+                  of S-5's cases some for each clause of its words
+  Accounts        the power account's numbers for every fifteenth passing case of each file, of S-5's every thirtieth, worked out here a second time from
+                  documents 01 and 02; where the file has the account's numbers, they must be the same for every case
   Roots           every case of the whole root and its binary digits, in one table
 
 Run it in the repository's root: python3 tools/trials.py CASES..., then rt fmt and rt check trials. Each of CASES, the base's first and then each
-request's in turn, is a file with one case to a line: name, call, feeder and report (files, looked for in its folder and then in the folder
-above), buffer (null: a large one), and the expected answer with one value; for a root its number, and the root and its steps.
+request's in turn, is a file as archive.py has them, answered as it says there.
 """
-import json, math, os, re, sys
+import math, re, sys
+from cases import cases, root_cases
 
 SPECS = 'crates/trials/specs/'
-DEFINITIONS = {'integers': 'Rounding Root Pairs Lists', 'text': 'Text Lines', 'feeder': 'Layout Feeder', 'equations': 'Equations',
-               'report': 'Report', 'iteration': 'Ladder', 'ladder': 'Study', 'compare': 'Differences', 'report_check': 'Check', 'account': 'Account',
-               'answer_text': 'AnswerText', 'study_answer': 'StudyAnswer', 'check_answer': 'CheckAnswer'}
+DEFINITIONS = {'integers': 'Rounding Root Pairs Lists', 'text': 'Text Lines', 'feeder': 'Layout Feeder', 'equations': 'Equations Taps',
+               'report': 'Report', 'iteration': 'Ladder', 'rounds': 'Rounds', 'ladder': 'Study', 'compare': 'Differences', 'report_check': 'Check',
+               'account': 'Account', 'answer_text': 'AnswerText', 'study_answer': 'StudyAnswer', 'check_answer': 'CheckAnswer'}
 REFUSALS = {10: 'Layout', 11: 'OutOfLimit', 20: 'UnknownFrom', 21: 'SecondTo', 22: 'NotReached', 23: 'PhaseAbsent', 24: 'NotZero',
-            30: 'ZeroVoltage', 31: 'LoadBeyond', 32: 'CurrentBeyond', 33: 'VoltageBeyond', 34: 'NotSettled', 40: 'BufferShort',
-            50: 'ReportLayout', 51: 'NameDiffers', 52: 'SourceDiffers', 53: 'CurrentDiffers', 54: 'VoltageOff', 55: 'TotalDiffers'}
+            30: 'ZeroVoltage', 31: 'LoadBeyond', 32: 'CurrentBeyond', 33: 'VoltageBeyond', 34: 'NotSettled', 35: 'TapsMoving', 40: 'BufferShort',
+            50: 'ReportLayout', 51: 'NameDiffers', 52: 'SourceDiffers', 53: 'CurrentDiffers', 54: 'VoltageOff', 55: 'TotalDiffers', 56: 'TapDiffers'}
 CALLS = {'study': [n for n in REFUSALS if n <= 40], 'check': [n for n in REFUSALS if n <= 32 or n >= 50]}
 NO_VALUE = (50, 55)
 LARGE = 1000000
-STEP = 10
+STEP = 15
 # S-4's cases in which several rows have the fault. Of 11 these are the source row and a branch, and a branch and two loads; of 22 a row that is fed from a
 # circle, and behind it the circle; of 23 a branch and a load; of 51 a row of each table. Of 54 there are two, and before them a row that is off and does
 # not count: it is fed by one of the two, or by a node within tol that one of the two feeds.
 SEVERAL_ROWS = ('00013-11-source-row', '00015-11-branch-before-load', '00003-20-13', '00004-21-13', '00018-22-tail-first', '00017-23-branch-before-load',
                 '00002-24-13', '00029-51-0-13-10', '00030-52-0', '00032-53-0', '00052-54-1-N1N3N4', '00055-54-1-N7N0N1')
 
+# S-5's cases. Studies with fixed taps, with a level and with both; at the edges of the band, where equal is no wish, and a unit to either side of them; a
+# bracket below 0 and of 0; no voltage; a tap at 16 and at -16 that wants further; 31 moves; compensators; halves in the relay voltage; refusals in a later
+# round, whose sweep is that round's; 35 also where the buffer is short; 40; limits of p4 to p9, and p5 to p12 where the level is 0.
+TAP_STUDIES = ('00487-table-none', '00494-table-fixed', '00501-table-level', '00507-table-mixed', '00149-edge-12001-2', '00153-edge-12001-3',
+               '00156-edge-11999-2', '00163-edge-12100-200', '00172-edge-11900-199', '00175-bracket-negative', '00184-bracket-minus-1', '00178-bracket-zero',
+               '00190-zero-voltage-level1', '00230-up-from-16', '00197-down-from--16', '00246-rounds-from-16-to-15', '00253-rounds-down-to--16',
+               '00663-comp-1000000-0-1', '00681-comp-0-1000000-1', '00717-relay-tie-V', '00720-relay-tie-V-neg', '00537-later-32-J', '00546-later-34-5',
+               '00543-later-34-down-4', '00256-35-before-40', '00034-k004s5-buf763', '00035-k004s5-buf764', '00038-limit-p4--1', '00046-limit-p4-20001',
+               '00055-limit-p6-0', '00078-limit-p8-100000001', '00146-absent-tap-17-level0', '00039-limit-p4-0', '00088-limit-p10-1', '00106-level0-p5-20001',
+               '00147-absent-tap-level12000', '00144-level0-24-after-23')
+# Reports without the table, with no level and with one; taps that are at rest though the study ends at others, or that want and cannot move; rows that are
+# swapped, missing, too many or misnamed; a tap beyond 16 and one on an absent phase; other taps, for which I or V do not follow; 56: a tap that could move up,
+# one that could move down, a fixed one that is not the feeder's, and the first of several rows; the relay voltage by the reported V, at rest and not.
+TAP_CHECKS = ('00490-without-none', '00497-without-fixed', '00499-without-fixed-LF', '00500-without-fixed-edit', '00504-without-level', '00510-without-mixed',
+              '00521-fixed-taps-other-without', '00346-settled-at-other-01+1', '00485-wants-down-at--16', '00272-rows-swapped', '00273-row-missing',
+              '00274-row-extra', '00279-tail', '00280-name', '00282-tap-01-17', '00290-tap-02--17', '00313-tap-12-1', '00304-tap-11-16', '00284-tap-01-16',
+              '00374-three-1-edit2', '00481-wants-up-at-15', '00484-wants-down-at--15', '00483-wants-down-at-16', '00520-fixed-taps-other',
+              '00522-56-first-[(6, 0, 0), (0, 6, 0), (0, 0, 7)]', '00523-56-first-[(5, 0, 0), (0, 6, 0), (0, 0, 0)]', '00470-settled-at-other-20+1',
+              '00620-relay-reported-11992-719500', '00617-relay-reported-11992-719000')
+
 
 # ---- the cases
-def cases(path):
-    folder = os.path.dirname(path)
-
-    def read(name):
-        near = os.path.join(folder, name)
-        return open(near if os.path.exists(near) else os.path.join(folder, '..', name), 'rb').read()
-
-    for line in open(path):
-        case = json.loads(line)
-        if case['call'] == 'root':
-            continue
-        expected = case['expected']
-        case['f'], case['r'] = read(case['feeder']), read(case['report']) if case.get('report') else b''
-        case['written'] = read(expected['file']) if expected['answer'] == 'report' else b''
-        case['size'] = len(case['f']) + len(case['r'])
-        case['kind'] = (case['call'], expected['answer'], expected.get('number', 0))
+def small_cases(path):
+    """The cases of a file whose files are under 3,000 bytes together, but those of 9."""
+    for case in cases(path, ('study', 'check', 'account')):
+        case['size'] = len(case['feeder']) + len(case['report'])
+        case['kind'] = (case['call'], case['expected']['answer'], case['expected'].get('number', 0))
         if case['size'] < 3000 and case['kind'][2] != 9:
             yield case
 
@@ -73,14 +83,14 @@ def theorem(name, case):
     if answer == 'report':
         report = case['written']
         sweeps = tables(report)[2][0][0]
-        said = f"fitted {text(case['f'])} {length} ≡ good (record {{ text = {text(report)[1:-1]}; sweeps = {sweeps} }})"
+        said = f"fitted {text(case['feeder'])} {length} ≡ good (record {{ text = {text(report)[1:-1]}; sweeps = {sweeps} }})"
     elif answer == 'pass':
-        said = f"checkOf {text(case['f'])} {text(case['r'])} ≡ Pass"
+        said = f"checkOf {text(case['feeder'])} {text(case['report'])} ≡ Pass"
     else:
         value, = case['expected']['values']
         refusal = REFUSALS[number] if number in NO_VALUE else f'({REFUSALS[number]} {value})'
-        said = (f"studyOf {text(case['f'])} {length} ≡ NoReport {refusal}" if call == 'study' else
-                f"checkOf {text(case['f'])} {text(case['r'])} ≡ Fail {refusal}")
+        said = (f"studyOf {text(case['feeder'])} {length} ≡ NoReport {refusal}" if call == 'study' else
+                f"checkOf {text(case['feeder'])} {text(case['report'])} ≡ Fail {refusal}")
     return proved(name, case, said)
 
 
@@ -124,7 +134,7 @@ unfoldable pub opened : Unit {{0}}
 unfolding {' '.join(names)}
 opened = tt
 
--- the power account's numbers for a feeder's and a report's text
+-- the power account's numbers for a feeder's and a report's text, with the taps that the report has
 pub record Numbers : Type 0 where
   pub differs : Pair
   pub allowed : ℕ
@@ -133,7 +143,7 @@ abbrev pub accountOf : List ℕ → List ℕ → Outcome Numbers
 accountOf s t = do
   f ← reading s
   r ← reportOf f t
-  good (record {{ differs = difference f r; allowed = allowance f r }})
+  good (record {{ differs = difference (withReported f r) r; allowed = allowance (withReported f r) r }})
 ''')
 
 
@@ -165,7 +175,8 @@ SIGNS = {'A': (1, 0, 0), 'B': (0, 1, 0), 'C': (0, 0, 1), 'AB': (1, -1, 0), 'BC':
 
 def account(feeder, report):
     (source,), branches, loads = tables(feeder)
-    nodes, flows, (totals,) = tables(report)
+    # No term has the taps, so that they are not read here.
+    nodes, flows, (totals,), *_ = tables(report)
     tol = int(source[7])
     voltage = {n[0]: pairs(n[1:]) for n in nodes}
     sums, allowed = [], 0
@@ -202,15 +213,15 @@ def account(feeder, report):
 
 
 def account_theorem(name, case):
-    differs, allowed = account(case['f'], case['r'])
+    differs, allowed = account(case['feeder'], case['report'])
     real, reactive = (f'pos {n}' if n >= 0 else f'negsuc {-n - 1}' for n in differs)
     numbers = f'record {{ differs = record {{ re = {real}; im = {reactive} }}; allowed = {allowed} }}'
-    return proved(name, case, f"accountOf {text(case['f'])} {text(case['r'])} ≡ good ({numbers})")
+    return proved(name, case, f"accountOf {text(case['feeder'])} {text(case['report'])} ≡ good ({numbers})")
 
 
 # ---- the whole root
 def roots(paths):
-    found = [case for path in paths for case in map(json.loads, open(path)) if case['call'] == 'root']
+    found = root_cases(paths)
     rows = '\n    ∷ '.join(f"({case['n']}, {case['expected']['root']}, {case['expected']['steps']})" for case in found)
     open(SPECS + 'Roots.antt', 'w').write(f'''-- Vectors: whole roots, and the number of their binary digits. Assumes nothing.
 use mathlib.Core.Bool.{{true, _&&_}}
@@ -236,53 +247,61 @@ all-right = refl
 
 
 # ---- the modules
-# Of each refusal the smallest of these cases. Where the check has none, a feeder that is refused before any report is read, with an empty report.
-def one_of_each(ordered):
+# Of each refusal the smallest case of the first file that has one. Where the check has none, a feeder that is refused before any report is read, with an empty
+# report.
+def one_of_each(files):
     smallest = {}
-    for case in sorted(ordered, key=lambda c: c['size']):
-        if case['kind'][1] == 'refuse' and len(case['f']) >= 150:
-            smallest.setdefault(case['kind'], case)
-    # None is missing but the check's 31, of which the cases have none since S-3.
+    for ordered in files:
+        for case in sorted(ordered, key=lambda c: c['size']):
+            if case['kind'][1] == 'refuse' and len(case['feeder']) >= 150:
+                smallest.setdefault(case['kind'], case)
     refused = {(call, number) for call, _, number in smallest}
-    assert {(call, n) for call, numbers in CALLS.items() for n in numbers if n > 24} - refused <= {('check', 31)}, refused
+    assert {(call, n) for call, numbers in CALLS.items() for n in numbers if n > 24} <= refused, refused
     for (call, answer, number), case in list(smallest.items()):
         if number <= 24:
             kind = ('check', answer, number)
-            smallest.setdefault(kind, dict(case, kind=kind, r=b'', name=case['name'] + ', with an empty report'))
+            smallest.setdefault(kind, dict(case, kind=kind, report=b'', name=case['name'] + ', with an empty report'))
     return [theorem(f'{kind[0]}-{kind[2]}', smallest[kind]) for kind in sorted(smallest)]
 
 
 def main():
     opened()
-    files = [sorted(cases(path), key=lambda c: c['kind']) for path in sys.argv[1:]]
+    files = [sorted(small_cases(path), key=lambda c: c['kind']) for path in sys.argv[1:]]
     answered = [[c for c in ordered if c['call'] != 'account'] for ordered in files]
-    module('Refusals', "One trial for each refusal of each call, the smallest of the base's cases; 9 is in TooLong, and the check's 31 in ByHand.", one_of_each(answered[0]))
-    chosen = [(number, c) for number, ordered in enumerate(answered) for c in ordered[STEP // 2::STEP]]
+    module('Refusals', 'One trial for each refusal of each call, the smallest case of the first file that has it; 9 is in TooLong.', one_of_each(answered))
 
     def named(letter, number, case):
         return letter + (f'{number}-' if number else '') + case['name'][:5]
 
+    def listed(request, names):
+        found = {c['name']: (number, c) for number, ordered in enumerate(answered) for c in ordered if c.get('request') == request}
+        return [found[name] for name in names]
+
+    def theorems(some):
+        return [theorem(named('v', number, c), c) for number, c in some]
+    chosen = [(number, c) for number, ordered in enumerate(answered) for c in [c for c in ordered if c.get('request') != 'S-5'][STEP // 2::STEP]]
+
     def vectors(name, about, wanted):
-        module(name, f'Vectors: {about}.', [theorem(named('v', number, c), c) for number, c in chosen if wanted(*c['kind'])])
+        module(name, f'Vectors: {about}.', theorems((number, c) for number, c in chosen if wanted(*c['kind'])))
     vectors('StudyReports', 'feeders that the study reports on', lambda call, answer, n: answer == 'report')
     vectors('StudyLayout', 'feeders whose layout the study refuses', lambda call, answer, n: call == 'study' and n == 10)
     vectors('StudyRefusals', "the study's other refusals", lambda call, answer, n: call == 'study' and n > 10)
     vectors('CheckPasses', 'reports that the check passes', lambda call, answer, n: answer == 'pass')
     vectors('CheckRefusals', 'feeders and reports that the check refuses', lambda call, answer, n: call == 'check' and answer == 'refuse')
-    several = [(number, c) for number, ordered in enumerate(answered) for c in ordered if c.get('request') == 'S-4' and c['name'] in SEVERAL_ROWS]
-    several.sort(key=lambda one: SEVERAL_ROWS.index(one[1]['name']))
-    assert len(several) == len(SEVERAL_ROWS), several
-    module('SeveralRows', 'Vectors: several rows have the fault, and the line is that of the first.',
-           [theorem(named('v', number, c), c) for number, c in several])
+    module('SeveralRows', 'Vectors: several rows have the fault, and the line is that of the first.', theorems(listed('S-4', SEVERAL_ROWS)))
+    module('TapStudies', 'Vectors: studies of regulators that set their taps, and of those with fixed taps.', theorems(listed('S-5', TAP_STUDIES)))
+    module('TapChecks', 'Vectors: checks of reports with taps, and of reports without their table.', theorems(listed('S-5', TAP_CHECKS)))
 
     known = [c for ordered in files for c in ordered if c['call'] == 'account']
     for case in known:
-        expected, (differs, allowed) = case['expected'], account(case['f'], case['r'])
+        expected, (differs, allowed) = case['expected'], account(case['feeder'], case['report'])
         assert [abs(n) for n in differs] + [allowed] == [expected[k] for k in ('p', 'q', 'allowance')], case['name']
     print(f'{len(known)} accounts as the files have them')
     accounts = []
     for number, ordered in enumerate(files):
-        accounts += [account_theorem(named('a', number, c), c) for c in [c for c in ordered if c['kind'][1] == 'pass'][::STEP]]
+        passing = [c for c in ordered if c['kind'][1] == 'pass']
+        step = 2 * STEP if passing and passing[0].get('request') == 'S-5' else STEP
+        accounts += [account_theorem(named('a', number, c), c) for c in passing[::step]]
     module('Accounts', 'Power accounts of reports that pass: the difference, real and reactive, and the allowance.', accounts)
     roots(sys.argv[1:])
 

@@ -16,7 +16,10 @@ branch table (known by the column from):
   phases                             A, B, C, AB, AC, BC or ABC
   kind                               L line, R regulator, Y or D transformer
   r_aa_ohm, x_aa_ohm, .. x_cc_ohm    L: aa, ab, ac, bb, bc, cc of the phase matrix of the whole section in ohm: whole 0.000001 ohm
-  tap_a, tap_b, tap_c                R: taps, -16 to 16
+  tap_a, tap_b, tap_c                R: taps, -16 to 16; with a level those of the first round, 0 where there is no value
+  level_v, band_v                    R: level and bandwidth of the relay in V, 0 to 200: whole 0.01 V; with no level the taps are fixed
+  potential_ratio, current_ratio     R with a level: ratios of the relay's transformers, whole, 1 to 10000
+  comp_r_ohm, comp_x_ohm             R with a level: compensator in ohm, 0 where there is no value
   turns_n, turns_m                   Y, D: the turns ratio N/M, 1 to 1000000 each
   r_a_ohm, x_a_ohm, .. x_c_ohm       Y, D: impedances in ohm on the to-node's side
 load table (known by the column node):
@@ -52,11 +55,14 @@ PHASE_LETTERS = tuple(phase.lower() for phase in format.PHASES)
 LINE_COLUMNS = tuple(f"{letter}_{pair}_ohm" for pair in LINE_PAIRS for letter in "rx")
 TAP_COLUMNS = tuple(f"tap_{phase}" for phase in PHASE_LETTERS)
 TRANSFORMER_COLUMNS = ("turns_n", "turns_m") + tuple(f"{letter}_{phase}_ohm" for phase in PHASE_LETTERS for letter in "rx")
+RELAY_COLUMNS = ("level_v", "band_v", "potential_ratio", "current_ratio", "comp_r_ohm", "comp_x_ohm")
 # The sheet's column for each of p1 to p12 that has a meaning, by the branch's kind.
-PARAMETER_COLUMNS = {"L": LINE_COLUMNS, "R": TAP_COLUMNS, "Y": TRANSFORMER_COLUMNS, "D": TRANSFORMER_COLUMNS}
+PARAMETER_COLUMNS = {"L": LINE_COLUMNS, "R": TAP_COLUMNS + RELAY_COLUMNS, "Y": TRANSFORMER_COLUMNS, "D": TRANSFORMER_COLUMNS}
+# Of these no value is taken as 0 where the regulator has a level.
+ZERO_WITH_A_LEVEL = TAP_COLUMNS + ("comp_r_ohm", "comp_x_ohm")
 
 SOURCE_COLUMNS = ("source",) + tuple(f"v{phase}_{part}" for phase in PHASE_LETTERS for part in ("re_v", "im_v", "v", "deg")) + ("tol_v", "sweeps")
-BRANCH_COLUMNS = ("from", "to", "phases", "kind") + LINE_COLUMNS + TAP_COLUMNS + TRANSFORMER_COLUMNS
+BRANCH_COLUMNS = ("from", "to", "phases", "kind") + LINE_COLUMNS + TAP_COLUMNS + RELAY_COLUMNS + TRANSFORMER_COLUMNS
 LOAD_COLUMNS = ("node", "phase", "kind", "vn_v", "p_kw", "q_kvar")
 # The column that tells a table, the columns that it may have, and those that it must have.
 KINDS_OF_TABLE = {
@@ -306,16 +312,20 @@ class Conversion:
             cell = row.cells.get(column, "")
             if column not in own and cell and self.decimal(row, column, cell):
                 self.refuse(row.place(column), f"{cell} stands in a row of kind {kind}, which has no such value")
-        described = format.PARAMETERS[kind]
+        sets = kind == "R" and self.has_level(row)
+        described = format.parameters_of(kind, 1 if sets else 0)
         without = []
         for place in range(12):
             column = own[place] if place < len(own) else None
             cell = row.cells.get(column, "") if column else ""
             if format.zero_is_due(described[place], phases):
                 if column and cell and self.decimal(row, column, cell):
-                    self.refuse(row.place(column), f"{cell} stands on a phase that the branch does not have")
+                    why = "on a phase that the branch does not have" if described[place].phases else "in a row without a level (level_v)"
+                    self.refuse(row.place(column), f"{cell} stands {why}")
                 values.append(0)
-            elif not cell and len(described[place].phases) == 2:
+            elif column == "level_v" and not sets:
+                values.append(0)
+            elif not cell and (len(described[place].phases) == 2 or sets and column in ZERO_WITH_A_LEVEL):
                 without.append(column)
                 values.append(0)
             else:
@@ -323,6 +333,13 @@ class Conversion:
         if without:
             self.remark(row.place(", ".join(without)), "no value, taken as 0")
         return values
+
+    def has_level(self, row):
+        """Whether a regulator's row has a level other than 0; a cell that is no number is one, and is refused as such."""
+        cell = row.cells.get("level_v", "")
+        if not cell:
+            return False
+        return not NUMBER.fullmatch(cell.replace(",", ".")) or decimal.Decimal(cell.replace(",", ".")) != 0
 
     def load_row(self, row):
         words = [self.name(row, "node"), self.word(row, "phase", tuple(format.LOAD_SIGNS)), self.word(row, "kind", tuple(format.LOAD_KINDS))]

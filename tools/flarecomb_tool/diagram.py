@@ -90,7 +90,7 @@ def details(joined, node):
     elif branch.kind == "L":
         device = "line"
     elif branch.kind == "R":
-        device = "regulator " + "/".join(str(branch.parameters[place]) for place, phase in enumerate(format.PHASES) if phase in branch.phases)
+        device = "regulator " + "/".join(str(joined.taps[node][place]) for place, phase in enumerate(format.PHASES) if phase in branch.phases)
     else:
         device = f"transformer {branch.kind} {branch.parameters[0]}/{branch.parameters[1]}"
     loads = [load for load in joined.feeder.loads if load.node == node]

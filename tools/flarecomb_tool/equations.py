@@ -1,4 +1,4 @@
-"""The equations of documents 01 and 02 in whole numbers, to say in which row a refusal from 30 to 34 or from 53 to 55 arises.
+"""The equations of documents 01 and 02 in whole numbers, to say in which row a refusal from 30 to 35 or from 53 to 56 arises.
 
 The proved programs give the answer. What is worked out here is only told where it comes to the same answer. Complex numbers are pairs
 (re, im) of whole numbers, and what a node or a branch has on its phases is a list of three of them.
@@ -6,17 +6,22 @@ The proved programs give the answer. What is worked out here is only told where 
 import collections
 import math
 
-from .format import CURRENT_LIMIT, CURRENTS, GRAINS_IN_A_WATT, LOAD_SIGNS, NODES, PHASES, TOTALS, VOLTAGE_LIMIT, header
+from .format import (
+    BAND, COMPENSATOR_R, COMPENSATOR_X, CURRENT_LIMIT, CURRENT_RATIO, CURRENTS, GRAINS_IN_A_WATT, LEVEL, LOAD_SIGNS, NODES, PHASES,
+    POTENTIAL_RATIO, TAP_LIMIT, TAPS, TOTALS, VOLTAGE_LIMIT, header, level_of, regulators, taps_of, with_taps,
+)
 
 ZERO = (0, 0)
 MICRO_OHM_MILLIAMPERES_IN_A_CENTIVOLT = 10000000
 STEPS = 160  # a tap's step is 1/160
+MOST_ROUNDS = 32
 
 # What is refused, with the row it arises in and a value: (re, im) of a voltage or a current.
 Trouble = collections.namedtuple("Trouble", "number sweep row phase value end", defaults=("",))
 # A settled study, or one that ran out of sweeps: moved[k] is the greatest movement in sweep k + 1, with its node and phase, and used[k] are
-# the voltages that this sweep took its currents from.
-Studied = collections.namedtuple("Studied", "voltages currents sweeps moved used trouble")
+# the voltages that this sweep took its currents from. All of these are those of the last round. feeder is the feeder with the taps of that
+# round as p1 to p3, and tried has the taps of each round, as taps_of gives them.
+Studied = collections.namedtuple("Studied", "voltages currents sweeps moved used trouble feeder tried")
 Movement = collections.namedtuple("Movement", "size node phase")
 
 
@@ -237,8 +242,54 @@ def greatest_movement(feeder, before, after):
     return greatest
 
 
-def study(feeder, tol=None, most_sweeps=None):
-    """The sweeps of the study, on a feeder that is free of 9 to 24; tol and the most sweeps are the feeder's where none are given."""
+def relay_voltage(branch, voltage, current):
+    """What the relay of a regulator with a level has on a phase, from V and I of its to-node there."""
+    numbers = branch.parameters
+    drop_there = times((numbers[COMPENSATOR_R], numbers[COMPENSATOR_X]), current)
+    return minus(rounded_pair(voltage, numbers[POTENTIAL_RATIO]),
+                 rounded_pair(drop_there, numbers[CURRENT_RATIO] * MICRO_OHM_MILLIAMPERES_IN_A_CENTIVOLT))
+
+
+def wanted_step(branch, relay):
+    """1 where a phase with this voltage at its relay wants up, -1 where it wants down, else 0."""
+    level, band = branch.parameters[LEVEL], branch.parameters[BAND]
+    size = 4 * square(relay)
+    if 2 * level >= band and size < (2 * level - band) ** 2:
+        return 1
+    return -1 if size > (2 * level + band) ** 2 else 0
+
+
+def wanted_steps(branch, voltages, currents):
+    """The steps that the phases of a regulator want, 0 on an absent phase and with level 0; V and I are those of its to-node."""
+    if level_of(branch) == 0:
+        return [0] * 3
+    return [wanted_step(branch, relay_voltage(branch, voltages[place], currents[place])) if _has(branch, place) else 0 for place in range(3)]
+
+
+def steps_made(branch, voltages, currents):
+    """The steps that the phases want and can make with the taps p1 to p3."""
+    return [step if abs(tap + step) <= TAP_LIMIT else 0
+            for tap, step in zip(branch.parameters, wanted_steps(branch, voltages, currents))]
+
+
+def study(feeder):
+    """The rounds of the study, on a feeder that is free of 9 to 24."""
+    tried = []
+    while True:
+        tried.append(taps_of(feeder))
+        studied = one_round(feeder)._replace(tried=tried)
+        if studied.trouble is not None:
+            return studied
+        steps = [steps_made(branch, studied.voltages[branch.to_node], studied.currents[branch.to_node]) for branch in regulators(feeder)]
+        if not any(step for three in steps for step in three):
+            return studied
+        if len(tried) == MOST_ROUNDS:
+            return studied._replace(trouble=Trouble(35, MOST_ROUNDS, None, "", ZERO))
+        feeder = with_taps(feeder, [[tap + step for tap, step in zip(taps, three)] for taps, three in zip(tried[-1], steps)])
+
+
+def one_round(feeder, tol=None, most_sweeps=None):
+    """The sweeps of one round, with the taps p1 to p3; tol and the most sweeps are the feeder's where none are given."""
     tol = feeder.source.tol if tol is None else tol
     most_sweeps = feeder.source.sweeps if most_sweeps is None else most_sweeps
     nothing = {branch.to_node: [ZERO] * 3 for branch in feeder.branches}
@@ -251,12 +302,12 @@ def study(feeder, tol=None, most_sweeps=None):
         if trouble is None:
             after, trouble = voltages_down(feeder, currents, sweep)
         if trouble is not None:
-            return Studied(voltages, None, sweep, moved, used, trouble)
+            return Studied(voltages, None, sweep, moved, used, trouble, feeder, ())
         moved.append(greatest_movement(feeder, voltages, after))
         if moved[-1].size <= tol:
-            return Studied(voltages, currents, sweep, moved, used, None)
+            return Studied(voltages, currents, sweep, moved, used, None, feeder, ())
         voltages = after
-    return Studied(voltages, currents, most_sweeps, moved, used, Trouble(34, most_sweeps, None, moved[-1].phase, ZERO))
+    return Studied(voltages, currents, most_sweeps, moved, used, Trouble(34, most_sweeps, None, moved[-1].phase, ZERO), feeder, ())
 
 
 def powers(feeder, voltages, load_currents, currents):
@@ -271,6 +322,7 @@ def powers(feeder, voltages, load_currents, currents):
 
 def report_lines(feeder, studied):
     """The lines of the report of a settled study, without LF."""
+    feeder = studied.feeder
     load_currents, currents, _ = currents_at(feeder, studied.voltages, studied.sweeps)
     losses, source, drawn, lost = powers(feeder, studied.voltages, load_currents, currents)
 
@@ -287,4 +339,6 @@ def report_lines(feeder, studied):
         + ["", header(CURRENTS)]
         + [row(b.from_node, b.to_node, *six(currents[b.to_node]), *losses[b.to_node]) for b in feeder.branches]
         + ["", header(TOTALS), row(studied.sweeps, *source, *drawn, *lost)]
+        + ["", header(TAPS)]
+        + [row(branch.to_node, *branch.parameters[:3]) for branch in regulators(feeder)]
     )

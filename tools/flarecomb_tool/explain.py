@@ -3,7 +3,7 @@
 The files are read here a second time, line by line. The answer stays the program's: where the reading here does not arrive at the same
 place, only the rule of that refusal is said.
 """
-from . import explain_radial, explain_report, explain_sweeps, explain_values
+from . import explain_radial, explain_report, explain_sweeps, explain_taps, explain_values
 from .explain_layout import layout_fault
 from .format import FEEDER_TABLES, LARGEST_FILE, NotLaidOut, REPORT_TABLES, header, read_feeder, read_report, split_lines
 from .wording import visible
@@ -17,18 +17,20 @@ RULES = {
     21: "Each node but the source stands once as to.",
     22: "Each branch is reached from the source.",
     23: "The phases of a branch or a load are among those of its node; a transformer has ABC.",
-    24: "A field without a meaning, or of an absent phase, is 0.",
+    24: "A field without a meaning, or of an absent phase, is 0; so are p5 to p9 of a regulator with level 0.",
     30: "A load of kind I has voltage 0. Look at the source voltage of its phases and at turns ratios.",
     31: "A load's current, re or im, is beyond 2000 A. Look at p, q, vn, the source voltage and turns ratios.",
     32: "A branch's current, re or im, is beyond 2000 A. Look at the loads behind it and at turns ratios.",
     33: "A voltage, re or im, is beyond 20000 V. Look at the source voltage, turns ratios, taps and loads.",
     34: "The voltages did not settle. Allow more sweeps, then a larger tol. Look whether a P load goes to and fro across 70 per cent of its vn.",
+    35: "After 32 rounds a regulator's tap still moves. Look at its bandwidth, which must leave room for a step, and at other regulators on its way.",
     50: "The file is not laid out as a report of this feeder.",
     51: "A name differs from the feeder's.",
     52: "The source voltage differs, or an absent phase has a voltage.",
     53: "A current does not follow from the loads at the reported voltages.",
     54: "A voltage is off by more than tol.",
     55: "A loss or a total differs.",
+    56: "A tap could still move as wanted, or is not the feeder's where the level is 0.",
 }
 NOT_THIS_REPORT = "The report belongs to another feeder, or one of the two files was changed since."
 
@@ -80,7 +82,7 @@ def _feeder_sentences(data, number, value):
     }
     if number in tellers:
         return line, tellers[number](feeder, value)
-    if 30 <= number <= 34 and is_sound(data, feeder):
+    if 30 <= number <= 35 and is_sound(data, feeder):
         return None, explain_sweeps.study_fault(feeder, number, value)
     return line, []
 
@@ -120,15 +122,19 @@ def _report_sentences(feeder, feeder_data, report_data, number, value):
         return None, []
     if number == 52:
         return value, explain_report.fixed_voltage(feeder, report, value)
+    # All else is compared for the taps that the report has.
+    at = explain_taps.reported_taps(feeder, report)
     if 30 <= number <= 32:
-        sentences = explain_sweeps.check_fault(feeder, explain_report.voltages_of(feeder, report), number)
+        sentences = explain_sweeps.check_fault(at, explain_report.voltages_of(feeder, report), number)
         return None, sentences + (explain_report.older_rule(feeder, report) if sentences and number == 32 else [])
     if number == 53:
-        line, sentences = value, explain_report.other_current(feeder, report, value)
+        line, sentences = value, explain_report.other_current(at, report, value)
     elif number == 54:
-        line, sentences = value, explain_report.other_voltage(feeder, report, value)
+        line, sentences = value, explain_report.other_voltage(at, report, value)
     elif number == 55:
-        line, sentences = explain_report.other_power(feeder, report)
+        line, sentences = explain_report.other_power(at, report)
+    elif number == 56:
+        return value, explain_taps.tap_fault(feeder, report, value)
     else:
         return None, []
     if not sentences:

@@ -111,6 +111,13 @@ def _per_cent(value):
     return f"{_plain(value)} % is {nearest}" + ("" if exact else " at the nearest")
 
 
+# What goes with a regulator's ratio that is multiplied by a number.
+RATIOS = {
+    "potential ratio": "p4, p5, p8 and p9 are then divided by the same number.",
+    "current ratio": "p8 and p9 are then multiplied by the same number.",
+}
+
+
 def _fraction(column, field, context):
     """Sentences on a number with a point or an exponent."""
     value = decimal.Decimal(field.decode("ascii"))
@@ -140,6 +147,8 @@ def _fraction(column, field, context):
         elif abs(value) <= 16 * STEP:
             sentences.append(f"If it is in per cent, a step is {STEP} %: {_per_cent(value)}.")
         return sentences
+    if column.meaning in RATIOS:
+        return [f"A ratio that is not whole is multiplied by a number, as 63.5 by 2. {RATIOS[column.meaning]}"]
     if "turns ratio" in column.meaning:
         return ["Only the ratio N/M counts: multiply both by the same number, as 12470 and 2400 for 12.47 and 2.4."]
     if has_unit:

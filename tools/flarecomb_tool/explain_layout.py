@@ -100,11 +100,14 @@ def _due_said(reading):
 
 
 def _tables_missing(reading):
-    missing = [table.name for table in reading.tables[reading.table_index + reading.names_read:]]
+    first = reading.table_index + reading.names_read
+    missing = [table.name for table in reading.tables[first:] if not table.may_lack or table is reading.table]
     if not missing:
         return []
     if len(missing) == 1:
-        return [f"The {missing[0]} table is missing: a table without rows still has its line of names."]
+        older = reading.table.may_lack and not reading.names_read
+        more = f" Without this table the empty line before it goes too: the file then ends with its {reading.tables[-2].name}." if older else ""
+        return [f"The {missing[0]} table is missing: a table without rows still has its line of names.{more}"]
     return [f"The {listed(missing)} tables are missing: a table without rows still has its line of names."]
 
 

@@ -1,16 +1,18 @@
-"""In what a report differs from its feeder: refusals 50 to 55."""
+"""In what a report differs from its feeder: refusals 50 to 55; 56 stands in explain_taps."""
 from . import equations
 from .explain_fields import label
 from .explain_layout import layout_fault
 from .explain_values import limits_said
-from .format import CURRENTS, NODES, REPORT_TABLES, TOTALS, outside_limit, split_lines
-from .wording import begun, counted, lines_said, listed
+from .format import CURRENTS, NODES, REPORT_TABLES, TAPS, TOTALS, header, level_of, outside_limit, regulators, sets_taps, split_lines
+from .wording import begun, counted, lines_said, listed, phases_said, volts
 
 NODE_VOLTAGES = NODES.columns[1:]
 BRANCH_CURRENTS = CURRENTS.columns[2:8]
 MOST_SHOWN = 4
 # From this version on a load of kind P acts as Z below 70 per cent of vn. No mark in a report tells which version wrote it.
 LOW_VOLTAGE_VERSION = "0.4.0"
+# From this version on a report has the table of taps.
+TAPS_VERSION = "0.5.0"
 
 
 def six(three):
@@ -48,7 +50,29 @@ def _row_counts(feeder, report):
     if len(report.currents) != len(feeder.branches):
         found = counted(len(report.currents), "row")
         return [f"The currents table has {found}; the feeder has {counted(len(feeder.branches), 'branch', 'branches')}."]
+    if report.taps is None:
+        setting = [branch for branch in feeder.branches if level_of(branch) > 0]
+        if setting:
+            level = volts(level_of(setting[0]))
+            return [f"The report ends without the taps table ({header(TAPS)}), as reports from before version {TAPS_VERSION} do. "
+                    f"It may do so only where no regulator has a level above 0: line {setting[0].line} of the feeder has {level}.",
+                    "Study the feeder again."]
+    elif len(report.taps) != len(regulators(feeder)):
+        found, due = counted(len(report.taps), "row"), counted(len(regulators(feeder)), "regulator")
+        return [f"The taps table has {found}; the feeder has {due}: each has its row, one with level 0 too."]
     return []
+
+
+def _tap_limits(feeder, report):
+    """(line, sentences) for a tap beyond its limit or on an absent phase; (None, []) where there is none."""
+    for branch, row in zip(regulators(feeder), report.taps or ()):
+        for column, tap in zip(TAPS.columns[1:], row.taps):
+            if outside_limit(column, tap):
+                return row.line, [f"{begun(label(column))} has {tap}: the limit is {limits_said(column)}."]
+            if tap and column.phases not in branch.phases:
+                return row.line, [f"{begun(label(column))} has {tap}: line {branch.line} of the feeder has {phases_said(branch.phases)} alone, "
+                                  "and an absent phase has 0."]
+    return None, []
 
 
 def not_a_report(feeder, report_data, report):
@@ -68,7 +92,7 @@ def not_a_report(feeder, report_data, report):
         return report.totals.line, [
             f"Column sweeps has {report.totals.sweeps}: the feeder (line {feeder.source.line}) allows 1 to {feeder.source.sweeps}."
         ]
-    return None, []
+    return _tap_limits(feeder, report)
 
 
 def other_name(feeder, report, line):
@@ -90,6 +114,9 @@ def other_name(feeder, report, line):
             if due == sorted((other.from_node, other.to_node) for other in report.currents):
                 sentences.append("The report has the feeder's branches in another order.")
             return sentences
+    for branch, row in zip(regulators(feeder), report.taps or ()):
+        if row.line == line and row.to_node != branch.to_node:
+            return [f"Column to has {row.to_node}: {branch.to_node} is due, the to of the regulator in line {branch.line} of the feeder."]
     return []
 
 
@@ -119,6 +146,9 @@ def against_study(feeder, report_data):
     if studied.trouble is not None:
         return []
     due = equations.report_lines(feeder, studied)
+    if header(TAPS).encode() not in report_data and not sets_taps(feeder):
+        # the form of before, which ends with the totals
+        due = due[:due.index(header(TAPS)) - 1]
     found = [line.content.decode("latin-1") for line in split_lines(report_data)]
     if len(due) != len(found):
         return []
@@ -147,7 +177,10 @@ def _follows(feeder, report):
 
 def older_rule(feeder, report):
     """Sentences for 32, 53 and 55 where all values of the report agree if loads of kind P have constant power at every voltage, as they had before
-    the low-voltage rule; [] where they do not, and where a load of kind P has voltage 0, which was refused with 30 then."""
+    the low-voltage rule; [] where they do not, where a load of kind P has voltage 0, which was refused with 30 then, and where the report has
+    the table of taps, which is younger than that rule."""
+    if report.taps is not None:
+        return []
     voltages = voltages_of(feeder, report)
     power_loads = [(load, equations.voltage_at(load, voltages)) for load in feeder.loads if load.kind == "P"]
     low = [load.line for load, voltage in power_loads if equations.is_low(load, voltage)]

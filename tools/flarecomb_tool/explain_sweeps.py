@@ -1,7 +1,8 @@
-"""Where currents or voltages leave their limits, or do not settle: refusals 30 to 34, also 30 to 32 of the check."""
+"""Where currents or voltages leave their limits, or do not settle: refusals 30 to 35, also 30 to 32 of the check."""
 from . import equations
+from .explain_taps import moving_fault
 from .explain_units import source_hint, vn_hint
-from .format import CURRENT_LIMIT, PHASES, VOLTAGE_LIMIT, is_between, load_phases
+from .format import CURRENT_LIMIT, PHASES, VOLTAGE_LIMIT, is_between, load_phases, regulators, sets_taps, taps_of
 from .power import nearest_root, square
 from .wording import amperes, between_said, counted, lines_said, listed, ohms, per_cent_of_rated, volts
 
@@ -179,7 +180,7 @@ def _as_impedances(feeder, crossing):
     """Sentences on what to do where the study ends with the loads that go to and fro as Z; [] where it does not."""
     lines = {load.line for load, _ in crossing}
     changed = feeder._replace(loads=[load._replace(kind="Z") if load.line in lines else load for load in feeder.loads])
-    studied = equations.study(changed, most_sweeps=MOST_SWEEPS)
+    studied = equations.one_round(changed, most_sweeps=MOST_SWEEPS)
     sweeps, tol = studied.sweeps, ""
     if studied.trouble is not None:
         ends = _least_tol(studied) if studied.trouble.number == 34 else None
@@ -188,12 +189,14 @@ def _as_impedances(feeder, crossing):
         sweeps, tol = ends[1], f" with tol {ends[0]}"
     first, reported = crossing[0][0], studied.used[sweeps - 1]
     rows = "the row" if len(lines) == 1 else "these rows"
-    said = (f"Look at why the voltage is so low: impedances, loads, taps and vn. With {rows} as Z the study takes {counted(sweeps, 'sweep')}{tol}, "
+    study = "this round" if sets_taps(feeder) else "the study"
+    said = (f"Look at why the voltage is so low: impedances, loads, taps and vn. With {rows} as Z {study} takes {counted(sweeps, 'sweep')}{tol}, "
             f"and line {first.line} has {per_cent_of_rated(first, equations.voltage_at(first, reported))} per cent of vn")
     if not all(equations.is_low(load, equations.voltage_at(load, reported)) for load, _ in crossing):
         return [said + (": there a P row is constant power." if len(lines) == 1 else ".")]
     # Below 70 per cent the rows take the same currents as P, so that the report is one of the feeder as it is.
-    passes = f" The check passes that report with {rows} as P too." if not tol and sweeps <= feeder.source.sweeps else ""
+    whole = not tol and sweeps <= feeder.source.sweeps and not sets_taps(feeder)
+    passes = f" The check passes that report with {rows} as P too." if whole else ""
     return [said + f". Where a motor does run below 70 per cent, write Z.{passes}"]
 
 
@@ -208,9 +211,9 @@ def _not_settled(feeder, studied):
         # More sweeps or a larger tol would only make a report of the wrong voltages.
         return sentences + units
     if source.sweeps < MOST_SWEEPS:
-        longer = equations.study(feeder, most_sweeps=MOST_SWEEPS)
+        longer = equations.one_round(feeder, most_sweeps=MOST_SWEEPS)
         if longer.trouble is None:
-            return sentences + [f"With more sweeps it settles: it takes {longer.sweeps}."]
+            return sentences + [f"With more sweeps {'this round' if sets_taps(feeder) else 'it'} settles: it takes {longer.sweeps}."]
         if longer.trouble.number == 34:
             sentences.append(f"It does not settle in {MOST_SWEEPS} sweeps, the most that may be made.")
         else:
@@ -225,7 +228,7 @@ def _not_settled(feeder, studied):
         tol, sweep = ends
         limit = "" if sweep <= source.sweeps else f" and sweeps {sweep}"
         side = ", with the load on the side where that sweep finds it: as P it draws about twice what it draws as Z" if crossing else ""
-        return sentences + [f"With tol {tol}{limit} it ends in sweep {sweep}{side}."]
+        return sentences + [f"With tol {tol}{limit} {'this round' if sets_taps(feeder) else 'it'} ends in sweep {sweep}{side}."]
     advice = _as_impedances(feeder, crossing) if crossing else []
     if advice:
         sentences.append(f"No tol up to {MOST_TOL} settles it: as P the load draws so much that a sweep has it below 70 per cent, "
@@ -237,11 +240,28 @@ def _not_settled(feeder, studied):
 
 
 def study_fault(feeder, number, value):
-    """Sentences for refusals 30 to 34 of the study; [] where the working here comes to another answer."""
+    """Sentences for refusals 30 to 35 of the study; [] where the working here comes to another answer."""
     studied = equations.study(feeder)
     trouble = studied.trouble
     if trouble is None or (trouble.number, trouble.sweep) != (number, value):
         return []
+    if number == 35:
+        return moving_fault(feeder, studied)
+    return _round_said(feeder, studied) + _sweep_fault(studied.feeder, studied, number)
+
+
+def _round_said(feeder, studied):
+    """The round that is refused, and its taps, where it is not the first."""
+    if len(studied.tried) == 1:
+        return []
+    moved = [(branch, taps) for branch, taps, first in zip(regulators(feeder), studied.tried[-1], taps_of(feeder)) if taps != first]
+    said = listed(f"{listed(taps)} in line {branch.line}" for branch, taps in moved)
+    return [f"This is in round {len(studied.tried)}, for which the regulators have set their taps" + (f" to {said}." if said else ".")]
+
+
+def _sweep_fault(feeder, studied, number):
+    """Sentences for refusals 30 to 34 in the last round; the feeder is that of the round."""
+    trouble = studied.trouble
     if number == 30:
         return _zero_voltage(feeder, trouble, False)
     if number == 31:

@@ -1,8 +1,8 @@
 """Which value is outside its limit (11), and which should be 0 (24)."""
 from .explain_fields import LARGER_UNITS, UNITS_SAID, label
 from .format import (
-    BRANCH_KINDS, BRANCH_PHASES, BRANCHES, FEEDER_TABLES, FIRST_PARAMETER, LOAD_PHASE, LOADS, PARAMETERS, Reading, columns_of, is_between,
-    is_unused, outside_limit, zero_is_due,
+    BAND, BRANCH_KINDS, BRANCH_PHASES, BRANCHES, COMPENSATOR_X, FEEDER_TABLES, FIRST_PARAMETER, LOAD_PHASE, LOADS, PARAMETERS, Reading,
+    columns_of, is_between, is_unused, outside_limit, zero_is_due,
 )
 from .wording import begun, listed, phases_said
 
@@ -37,11 +37,25 @@ def in_larger_unit(column, value):
     return f", that is {'-' if value < 0 else ''}{size} {name}"
 
 
+# What p4 to p9 of a regulator are.
+REGULATOR_VALUES = {
+    "level": "The level is what the relay shall have, behind the potential transformer: 121 V is 12100.",
+    "bandwidth": "The bandwidth is all of it, half below the level and half above: 2 V is 200.",
+    "potential ratio": "The potential ratio is whole: 20 for 2400 V to 120 V.",
+    "current ratio": "The current ratio is whole: 200 for 1000 A to 5 A.",
+    "R of the compensator": "R of the compensator is its setting in ohm: one in volts is divided by the rated current of the relay's side, as 5 A.",
+    "X of the compensator": "X of the compensator is its setting in ohm: one in volts is divided by the rated current of the relay's side, as 5 A.",
+}
+
+
 def _why_outside(table, column, value, values):
     """What the limit means, where that helps."""
     kind = values[FIRST_PARAMETER - 1] if table is BRANCHES else ""
     if column.meaning.startswith("tap"):
         return ["A tap is a number of steps: 16 raises the voltage by 11.1 %, -16 lowers it by 9.1 %. If the row is a line, its kind is L."]
+    if column.meaning in REGULATOR_VALUES:
+        needed = ["A regulator with a level (p4) needs both ratios. With level 0 it keeps its taps, and p5 to p9 are 0."]
+        return [REGULATOR_VALUES[column.meaning]] + (needed if "ratio" in column.meaning and value == 0 else [])
     if "turns ratio" in column.meaning and value < 1:
         return [f"Kind {kind} is a transformer ({BRANCH_KINDS[kind].split(', ')[1]}): p1 is N and p2 is M. If the row is a line, its kind is L."]
     if column.name == "vn":
@@ -120,7 +134,11 @@ def _zero_fault(table, _, values):
         return []
     shown = listed(f"{column.name} ({column.meaning}) {value}" for column, value in wrong)
     sentences = []
-    if any(is_unused(column) for column, _ in wrong):
+    of_level = [column for column, _ in parameters[BAND:COMPENSATOR_X + 1] if kind == "R" and column.only_zero]
+    if any(column in of_level for column, _ in wrong):
+        sentences.append(f"The row has {shown}: p4 (level) is 0, so the regulator keeps the taps p1 to p3, and 0 is due in p5 to p12. "
+                         "If it shall set its taps, its level is missing in p4.")
+    elif any(is_unused(column) for column, _ in wrong):
         used = sum(not is_unused(column) for column, _ in parameters)
         sentences.append(f"The row has {shown}: a row of kind {kind} ({BRANCH_KINDS[kind]}) uses p1 to p{used}, and 0 is due in the others.")
     else:
@@ -134,7 +152,7 @@ def _zero_fault(table, _, values):
             sentences.append(f"The values stand one behind the other from p1 on. The columns of {phases_said(phases)} are {due}.")
         elif len(phases) < 3:
             sentences.append(f"The columns of {phases_said(phases)} are {due}.")
-    if kind == "R" and len(phases) < 3:
-        due = listed(f"{column.name} ({column.meaning})" for column in _columns_named("R", phases))
+    if kind == "R" and len(phases) < 3 and any(column.phases for column, _ in wrong):
+        due = listed(f"{column.name} ({column.meaning})" for column in _columns_named("R", phases) if column.phases)
         sentences.append(f"The columns of {phases_said(phases)} are {due}.")
     return sentences

@@ -16,6 +16,9 @@ VOLTAGE_BETWEEN_LIMIT = 4000000
 CURRENT_LIMIT = 2000000
 IMPEDANCE_LIMIT = 100000000
 POWER_LIMIT = 3000000
+TAP_LIMIT = 16
+LEVEL_LIMIT = 20000
+RATIO_LIMIT = 10000
 GRAINS_IN_A_WATT = 100000
 
 PHASES = ("A", "B", "C")
@@ -48,11 +51,13 @@ def is_between(word):
 
 
 # form is "name", "number" or the tuple of the words that may stand in the column. least and most are the limits of refusal 11 (of 50 in
-# a report), None where there are none. phases are those that the column belongs to: where one of them is absent, 0 is due.
-Column = collections.namedtuple("Column", "name form meaning unit least most phases", defaults=("", None, None, ""))
+# a report), None where there are none. phases are those that the column belongs to: where one of them is absent, 0 is due. only_zero is
+# whether 0 is due there on every phase.
+Column = collections.namedtuple("Column", "name form meaning unit least most phases only_zero", defaults=("", None, None, "", False))
 
-# fewest and most rows are those of the layout (refusal 10): a row past limit_rows is refused with 11 instead.
-Table = collections.namedtuple("Table", "name columns fewest_rows most_rows limit_rows")
+# fewest and most rows are those of the layout (refusal 10): a row past limit_rows is refused with 11 instead. may_lack is whether a file
+# may end before the table, without the empty line before it.
+Table = collections.namedtuple("Table", "name columns fewest_rows most_rows limit_rows may_lack", defaults=(False,))
 
 
 def header(table):
@@ -145,8 +150,16 @@ TOTALS = Table(
     1, 1, None,
 )
 
+# Reports from before version 0.5.0 end without this table.
+TAPS = Table(
+    "taps",
+    (Column("to", "name", "the node that the regulator feeds"),)
+    + tuple(Column(f"tap_{phase.lower()}", "number", f"tap of {phase}", "", -TAP_LIMIT, TAP_LIMIT, phase) for phase in PHASES),
+    0, None, None, True,
+)
+
 FEEDER_TABLES = (SOURCE, BRANCHES, LOADS)
-REPORT_TABLES = (NODES, CURRENTS, TOTALS)
+REPORT_TABLES = (NODES, CURRENTS, TOTALS, TAPS)
 
 
 def _impedances(first, pairs):
@@ -163,7 +176,7 @@ def _impedances(first, pairs):
 
 def _unused(first):
     """The columns from p<first> on that have no meaning: 0 is due, and there is no other limit."""
-    return tuple(Column(f"p{place}", "number", "not used") for place in range(first, 13))
+    return tuple(Column(f"p{place}", "number", "not used", only_zero=True) for place in range(first, 13))
 
 
 _TRANSFORMER = (
@@ -172,13 +185,37 @@ _TRANSFORMER = (
     + _unused(9)
 )
 
-# What p1 to p12 are, by the branch's kind.
+_REGULATOR = (
+    tuple(Column(f"p{place}", "number", f"tap of {phase}", "", -TAP_LIMIT, TAP_LIMIT, phase) for place, phase in enumerate(PHASES, 1))
+    + (
+        Column("p4", "number", "level", "cV", 0, LEVEL_LIMIT),
+        Column("p5", "number", "bandwidth", "cV", 0, LEVEL_LIMIT),
+        Column("p6", "number", "potential ratio", "", 1, RATIO_LIMIT),
+        Column("p7", "number", "current ratio", "", 1, RATIO_LIMIT),
+        Column("p8", "number", "R of the compensator", "µΩ", -IMPEDANCE_LIMIT, IMPEDANCE_LIMIT),
+        Column("p9", "number", "X of the compensator", "µΩ", -IMPEDANCE_LIMIT, IMPEDANCE_LIMIT),
+    )
+    + _unused(10)
+)
+LEVEL, BAND, POTENTIAL_RATIO, CURRENT_RATIO, COMPENSATOR_R, COMPENSATOR_X = range(3, 9)  # their places among p1 to p12 of a regulator
+
+# What p1 to p12 are, by the branch's kind; of a regulator those where the level is not 0.
 PARAMETERS = {
     "L": _impedances(1, ("AA", "AB", "AC", "BB", "BC", "CC")),
-    "R": tuple(Column(f"p{place}", "number", f"tap of {phase}", "", -16, 16, phase) for place, phase in enumerate(PHASES, 1)) + _unused(4),
+    "R": _REGULATOR,
     "Y": _TRANSFORMER,
     "D": _TRANSFORMER,
 }
+# With level 0 a regulator keeps its taps: p5 to p9 can only be 0 then, and have no other limit.
+FIXED_REGULATOR = tuple(
+    column._replace(least=None, most=None, only_zero=True) if BAND <= place <= COMPENSATOR_X else column
+    for place, column in enumerate(_REGULATOR)
+)
+
+
+def parameters_of(kind, level):
+    """What p1 to p12 of a branch are; level is p4 as a number or as text, which matters in a regulator's row alone."""
+    return FIXED_REGULATOR if kind == "R" and str(level) == "0" else PARAMETERS[kind]
 
 
 # What vn is, by the word of the load's phase.
@@ -190,24 +227,25 @@ RATED_VOLTAGES = {
 
 
 def columns_of(table, words):
-    """The columns of a row: p1 to p12 as a branch's kind has them, vn as a load's phase has it. words are the row's fields as texts;
-    where they do not tell kind or phase, the columns are those of the table."""
+    """The columns of a row: p1 to p12 as a branch's kind and level have them, vn as a load's phase has it. words are the row's fields as
+    texts; where they do not tell kind or phase, the columns are those of the table."""
     columns = table.columns
     if table is BRANCHES and words[FIRST_PARAMETER - 1] in PARAMETERS:
-        return columns[:FIRST_PARAMETER] + PARAMETERS[words[FIRST_PARAMETER - 1]]
+        level = words[FIRST_PARAMETER + LEVEL] if len(words) > FIRST_PARAMETER + LEVEL else ""
+        return columns[:FIRST_PARAMETER] + parameters_of(words[FIRST_PARAMETER - 1], level)
     if table is LOADS and words[LOAD_PHASE] in RATED_VOLTAGES:
         return columns[:RATED_VOLTAGE] + (RATED_VOLTAGES[words[LOAD_PHASE]],) + columns[RATED_VOLTAGE + 1:]
     return columns
 
 
 def is_unused(column):
-    """Whether a parameter can only be 0 in its kind of row."""
+    """Whether a parameter has no meaning in its kind of row."""
     return column.meaning == "not used"
 
 
 def zero_is_due(column, phases):
     """Whether a parameter of a branch with these phases must be 0 (refusal 24)."""
-    return is_unused(column) or any(phase not in phases for phase in column.phases)
+    return column.only_zero or any(phase not in phases for phase in column.phases)
 
 
 def outside_limit(column, value):
@@ -281,7 +319,11 @@ class Reading:
         if self.table.most_rows is None or count < self.table.most_rows:
             may.add("row")
         if count >= self.table.fewest_rows:
-            may.add("end" if self.table_index == len(self.tables) - 1 else "empty line")
+            following = self.tables[self.table_index + 1:]
+            if following:
+                may.add("empty line")
+            if all(table.may_lack for table in following):
+                may.add("end")
         return may
 
     def _take(self, line):
@@ -321,7 +363,38 @@ Feeder = collections.namedtuple("Feeder", "source branches loads")
 NodeVoltage = collections.namedtuple("NodeVoltage", "line node voltage")
 BranchCurrent = collections.namedtuple("BranchCurrent", "line from_node to_node current loss_p loss_q")
 Totals = collections.namedtuple("Totals", "line sweeps source_p source_q drawn_p drawn_q lost_p lost_q")
-Report = collections.namedtuple("Report", "nodes currents totals")
+RegulatorTaps = collections.namedtuple("RegulatorTaps", "line to_node taps")
+# taps is None where the report ends without the table of them.
+Report = collections.namedtuple("Report", "nodes currents totals taps", defaults=(None,))
+
+
+def regulators(feeder):
+    """The branches that are regulators, in the feeder's order."""
+    return [branch for branch in feeder.branches if branch.kind == "R"]
+
+
+def level_of(branch):
+    """The level of a regulator, 0 where it keeps its taps; of another branch 0."""
+    return branch.parameters[LEVEL] if branch.kind == "R" else 0
+
+
+def sets_taps(feeder):
+    """Whether a regulator of the feeder has a level above 0."""
+    return any(level_of(branch) > 0 for branch in feeder.branches)
+
+
+def with_taps(feeder, taps):
+    """The feeder with these taps as p1 to p3 of its regulators: a list of three taps for each of them, in the feeder's order."""
+    given = iter(taps)
+    return feeder._replace(branches=[
+        branch._replace(parameters=tuple(next(given)) + tuple(branch.parameters[3:])) if branch.kind == "R" else branch
+        for branch in feeder.branches
+    ])
+
+
+def taps_of(feeder):
+    """p1 to p3 of each regulator, in the feeder's order."""
+    return [tuple(branch.parameters[:3]) for branch in regulators(feeder)]
 
 
 def _three(values):
@@ -335,12 +408,12 @@ def _read(data, tables, layout_number):
     reading = Reading(data, tables)
     if reading.stopped is not None:
         raise NotLaidOut(layout_number, reading.stopped)
-    return reading.rows
+    return reading
 
 
 def read_feeder(data):
     """The Feeder of a file given as bytes. Only its layout is looked at here; NotLaidOut is raised where that is wrong."""
-    sources, branches, loads = _read(data, FEEDER_TABLES, 10)
+    sources, branches, loads = _read(data, FEEDER_TABLES, 10).rows
     line, values = sources[0]
     return Feeder(
         Source(line, values[0], _three(values[1:7]), values[7], values[8]),
@@ -351,10 +424,12 @@ def read_feeder(data):
 
 def read_report(data):
     """The Report of a file given as bytes. Only its layout is looked at here; NotLaidOut is raised where that is wrong."""
-    nodes, currents, totals = _read(data, REPORT_TABLES, 50)
+    reading = _read(data, REPORT_TABLES, 50)
+    nodes, currents, totals, taps = reading.rows
     line, values = totals[0]
     return Report(
         [NodeVoltage(line, values[0], _three(values[1:])) for line, values in nodes],
         [BranchCurrent(line, values[0], values[1], _three(values[2:8]), values[8], values[9]) for line, values in currents],
         Totals(line, *values),
+        [RegulatorTaps(line, values[0], values[1:]) for line, values in taps] if reading.table is TAPS else None,
     )

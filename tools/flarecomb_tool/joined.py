@@ -26,7 +26,7 @@ def check_limits(feeder):
     """A value outside its limit has no meaning that could be shown (a turns ratio over 0, for one)."""
     source = feeder.source
     rows = [(source.line, format.SOURCE.columns[1:], [part for pair in source.voltage for part in pair] + [source.tol, source.sweeps])]
-    rows += [(branch.line, format.PARAMETERS[branch.kind], branch.parameters) for branch in feeder.branches]
+    rows += [(branch.line, format.parameters_of(branch.kind, branch.parameters[format.LEVEL]), branch.parameters) for branch in feeder.branches]
     rows += [(load.line, format.columns_of(format.LOADS, load[1:])[format.RATED_VOLTAGE:], (load.vn, load.p, load.q)) for load in feeder.loads]
     for line, columns, values in rows:
         if any(format.outside_limit(column, value) for column, value in zip(columns, values)):
@@ -65,11 +65,17 @@ def check_rows(feeder, report):
     names = [feeder.source.name] + [branch.to_node for branch in feeder.branches]
     if len(report.nodes) != len(names) or len(report.currents) != len(feeder.branches):
         raise CannotJoin(50, 0)
+    regulators = format.regulators(feeder)
+    if format.sets_taps(feeder) if report.taps is None else len(report.taps) != len(regulators):
+        raise CannotJoin(50, 0)
     for row, node in zip(report.nodes, names):
         if row.node != node:
             raise CannotJoin(51, row.line)
     for row, branch in zip(report.currents, feeder.branches):
         if (row.from_node, row.to_node) != (branch.from_node, branch.to_node):
+            raise CannotJoin(51, row.line)
+    for row, branch in zip(report.taps or (), regulators):
+        if row.to_node != branch.to_node:
             raise CannotJoin(51, row.line)
 
 
@@ -88,6 +94,9 @@ class Joined:
         self.phases = {self.source: "ABC", **{branch.to_node: branch.phases for branch in feeder.branches}}
         self.voltage = {row.node: row.voltage for row in report.nodes}
         self.current = {row.to_node: row for row in report.currents}
+        # Without a table of them the taps are the feeder's.
+        taps = format.taps_of(feeder) if report.taps is None else [row.taps for row in report.taps]
+        self.taps = {branch.to_node: three for branch, three in zip(format.regulators(feeder), taps)}
         # Branches, each behind the one that feeds it.
         self.downward = equations.from_source_down(feeder)
         self.children = {node: [] for node in self.nodes}

@@ -5,7 +5,8 @@ import cmath
 import collections
 
 from . import format, power
-from .equations import ZERO
+from .equations import STEPS, ZERO
+from .explain_taps import DIRECTIONS, edge_said, at_their_end, relay_said
 from .joined import CannotJoin, Joined
 from .wording import begun, between_said, lines_said, listed, ohms, per_cent_of_rated, volts, watts
 
@@ -138,6 +139,34 @@ def _rated_voltages(joined):
     return found
 
 
+def _taps_at_their_end(joined):
+    found = []
+    for branch, phases, step in at_their_end(joined):
+        level = format.level_of(branch)
+        one = len(phases) == 1
+        taps = f"the tap{'' if one else 's'} of {listed(phase for phase, _ in phases)} {'stands' if one else 'stand'} at {16 * step}"
+        relays = listed(relay_said(relay) for _, relay in phases)
+        hint = ""
+        biggest = max(power.nearest_root(power.square(relay)) for _, relay in phases)
+        if step < 0 and level * 30 <= biggest <= level * 300:
+            hint = f"; the level is in cV: {level} V is {level * 100}"
+        have = "wants {}: the relay has" if one else "want {}: the relays have"
+        edge = f"level {'less' if step > 0 else 'and'} half the bandwidth is {edge_said(branch, step)}"
+        found.append(Note(branch.line, f"{taps} and still {have.format(DIRECTIONS[step])} {relays}, and {edge}{hint}"))
+    return found
+
+
+def _narrow_bands(feeder):
+    """Bandwidths below a step: with a little more or less load the rounds may not end."""
+    found = []
+    for branch in feeder.branches:
+        level = format.level_of(branch)
+        if level and branch.parameters[format.BAND] * STEPS < level:
+            found.append(Note(branch.line, f"the bandwidth is {volts(branch.parameters[format.BAND])}, and a step moves the relay by about "
+                              f"{volts(level // STEPS)}: with a little other load the rounds may not end"))
+    return found
+
+
 def _cut(notes):
     """At most so many notes of a kind; one more names the lines of the others."""
     if len(notes) <= MOST_OF_A_KIND:
@@ -151,7 +180,7 @@ def notes_of(joined):
     feeder = joined.feeder
     kinds = (
         _source_voltage(feeder), _source_order(feeder), _small_loads(feeder), impedances(feeder), _negative_losses(joined), _twice(feeder),
-        _reactors(feeder), _rated_voltages(joined),
+        _reactors(feeder), _rated_voltages(joined), _taps_at_their_end(joined), _narrow_bands(feeder),
     )
     return [note for notes in kinds for note in _cut(notes)]
 

@@ -2,7 +2,7 @@
 import collections
 import hashlib
 
-from . import explain, format, joined as joining, notes, power, programs
+from . import equations, explain, format, joined as joining, notes, power, programs
 from .equations import ZERO, plus, rounded
 from .wording import counted, decimal_text, per_cent_of_rated
 
@@ -53,7 +53,8 @@ def device_text(branch):
     """The numbers of a branch in the units of the trade."""
     names = format.PARAMETERS[branch.kind]
     if branch.kind == "R":
-        return "taps " + ", ".join(f"{phase} {tap}" for phase, tap in zip(format.PHASES, branch.parameters) if phase in branch.phases)
+        taps = "taps " + ", ".join(f"{phase} {tap}" for phase, tap in zip(format.PHASES, branch.parameters) if phase in branch.phases)
+        return f"sets its taps, first {taps}" if format.level_of(branch) else taps
     parts = [] if branch.kind == "L" else [f"{branch.parameters[0]}/{branch.parameters[1]}"]
     first = 0 if branch.kind == "L" else 2
     for place in range(first, 12, 2):
@@ -106,6 +107,28 @@ def branch_table(joined):
         row += [kilowatts(current.loss_p), kilowatts(current.loss_q), per_cent(current.loss_p, joined.report.totals.source_p)]
         rows.append(row)
     return Table("Branches", columns, rows)
+
+
+def regulator_table(joined):
+    """What the regulators are set to, the taps of the report, and what their relays have with its voltages and currents."""
+    columns = [Column("feeder", "to", "", True)]
+    columns += [Column("feeder", name, unit) for name, unit in (
+        ("level", "V"), ("band", "V"), ("potential_ratio", ""), ("current_ratio", ""), ("R", "ohm"), ("X", "ohm"))]
+    columns += [Column("report", f"tap_{phase}", "") for phase in format.PHASES]
+    columns += [Column("report", f"relay_{phase}", "V") for phase in format.PHASES]
+    rows = []
+    for branch in format.regulators(joined.feeder):
+        level, band, potential, current, resistance, reactance = branch.parameters[format.LEVEL:format.COMPENSATOR_X + 1]
+        sets = level > 0
+        relay = [decimal_text(level, 2, 2), decimal_text(band, 2, 2), str(potential), str(current), ohms(resistance), ohms(reactance)]
+        row = [branch.to_node] + (relay if sets else [None] * 6)
+        present = [phase in branch.phases for phase in format.PHASES]
+        row += [str(tap) if here or tap else None for here, tap in zip(present, joined.taps[branch.to_node])]
+        for place, here in enumerate(present):
+            voltage, flow = joined.voltage[branch.to_node][place], joined.current[branch.to_node].current[place]
+            row.append(volts(equations.relay_voltage(branch, voltage, flow)) if sets and here else None)
+        rows.append(row)
+    return Table("Regulators", columns, rows)
 
 
 def device_table(joined):
@@ -214,6 +237,8 @@ def facts(joined, feeder_bytes, report_bytes, checked):
              ("sweeps", f"{totals.sweeps} of at most {source.sweeps}"),
              ("rows", ", ".join((counted(len(joined.nodes), "node"), counted(len(joined.feeder.branches), "branch", "branches"),
                                  counted(len(joined.feeder.loads), "load"))))]
+    if joined.taps and joined.report.taps is None:
+        found.append(("taps", "the report has no table of taps: those of the feeder count"))
     found += base_facts(joined)
     extremes = joined.extremes()
     if extremes:
@@ -237,4 +262,5 @@ def read(arguments):
             feeder_bytes, report_bytes, fault.number, 0 if fault.number == 50 else fault.line, arguments.feeder, arguments.report)) from fault
     checked = check_facts(arguments, feeder_bytes, report_bytes)
     return Shown(joined, facts(joined, feeder_bytes, report_bytes, checked), notes.warnings(joined),
-                 [node_table(joined), branch_table(joined), device_table(joined), load_table(joined), totals_table(joined), account_table(joined)])
+                 [node_table(joined), branch_table(joined), *([regulator_table(joined)] if joined.taps else []), device_table(joined),
+                  load_table(joined), totals_table(joined), account_table(joined)])

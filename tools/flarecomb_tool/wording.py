@@ -95,6 +95,11 @@ def volts(centivolts):
     return decimal_text(centivolts, 2, 2) + " V"
 
 
+def centivolts(number):
+    """'76 (0.76 V)', of a value as it stands in a file"""
+    return f"{number} ({volts(number)})"
+
+
 def amperes(milliamperes):
     return decimal_text(milliamperes, 3, 3) + " A"
 

@@ -53,8 +53,19 @@ def feeder_text(source, branches=(), loads=()):
     return file_text(format.FEEDER_TABLES, [source], branches, loads)
 
 
-def report_text(nodes, branches, totals):
-    return file_text(format.REPORT_TABLES, nodes, branches, [totals])
+def report_text(nodes, branches, totals, taps=()):
+    """With None in the place of taps it is a report from before their table."""
+    return file_text(format.REPORT_TABLES, nodes, branches, [totals], *([] if taps is None else [taps]))
+
+
+def without_taps(report):
+    """A report's text without its last table, as reports were before it."""
+    return report[:report.index("\n" + format.header(format.TAPS))]
+
+
+def regulator_row(from_node, to_node, phases="A", taps=(0, 0, 0), relay=(0, 0, 0, 0, 0, 0)):
+    """relay has level, bandwidth, both ratios, R and X."""
+    return f"{from_node},{to_node},{phases},R," + ",".join(map(str, (*taps, *relay, 0, 0, 0)))
 
 
 def line_row(from_node, to_node, phases="ABC", values=()):

@@ -621,11 +621,13 @@ MISTAKES = (
         "The row has p1 (tap of A) 3: the branch has phases B and C alone, and 0 is due where a phase is absent.",
         "The columns of phases B and C are p2 (tap of B) and p3 (tap of C).",
     )),
-    Mistake("regulator_with_four_values", None, 24, 6, (
+    Mistake("regulator_with_four_values", None, 11, 6, (
         "the feeder, line 6:",
         "    N1,N2,AB,R,-3,4,0,7,0,0,0,0,0,0,0,0",
-        "The row has p4 (not used) 7: a row of kind R (regulator) uses p1 to p3, and 0 is due in the others.",
-        "The columns of phases A and B are p1 (tap of A) and p2 (tap of B).",
+        "Column p6 (potential ratio) has 0: the limit is 1 to 10000.",
+        "Column p7 (current ratio) has 0: the limit is 1 to 10000.",
+        "The potential ratio is whole: 20 for 2400 V to 120 V.",
+        "A regulator with a level (p4) needs both ratios. With level 0 it keeps its taps, and p5 to p9 are 0.",
     )),
     Mistake("transformer_with_line_matrix", None, 24, 5, (
         "the feeder, line 5:",
@@ -1353,5 +1355,109 @@ MISTAKES = (
         "Column va_re (real part of the voltage of A) has 704167: worked down from the source it is 704052, 115 cV off; tol is 1.",
         "Column va_im (imaginary part of the voltage of A) has -1407: worked down from the source it is -1748, 341 cV off; tol is 1.",
         "7 of its 13 lines differ from the feeder's own report: the report belongs to another feeder, or the feeder was changed since.",
+    )),
+    Mistake("taps_to_and_fro", None, 35, 32, (
+        "the feeder:",
+        "After 32 rounds phase A of the regulator in line 6 (N1,N2) still wants up: at tap 3 its relay has 119.607 V, below 119.90 V (level less half the bandwidth).",
+        "Phase A of line 6 goes to and fro between tap 3, where its relay has 119.607 V, and tap 4, where it has 120.416 V: neither is within level and bandwidth (119.90 V to 120.10 V).",
+        "With p5 (bandwidth) 91 (0.91 V) in line 6 the rounds end, after 4 rounds.",
+    )),
+    Mistake("first_taps_far_off", None, 35, 32, (
+        "the feeder:",
+        "After 32 rounds phase A of the regulator in line 6 (N1,N2) still wants up: at tap 15 its relay has 129.893 V, below 131.00 V (level less half the bandwidth).",
+        "From the taps of the last round on the rounds end: write them as p1 to p3, 15, 16 and 0 in line 6.",
+    )),
+    Mistake("level_missing", None, 24, 6, (
+        "the feeder, line 6:",
+        "    N1,N2,AB,R,0,0,0,0,200,60,10,1000000,1500000,0,0,0",
+        "The row has p5 (bandwidth) 200, p6 (potential ratio) 60, p7 (current ratio) 10, p8 (R of the compensator) 1000000 and p9 (X of the compensator) 1500000: p4 (level) is 0, so the regulator keeps the taps p1 to p3, and 0 is due in p5 to p12. If it shall set its taps, its level is missing in p4.",
+    )),
+    Mistake("level_of_the_line", None, 11, 6, (
+        "the feeder, line 6:",
+        "    N1,N2,AB,R,0,0,0,720000,200,60,10,1000000,1500000,0,0,0",
+        "Column p4 (level) has 720000, that is 7200 V: the limit is 0 to 20000 in cV (0.01 V).",
+        "The level is what the relay shall have, behind the potential transformer: 121 V is 12100.",
+    )),
+    Mistake("potential_ratio_with_fraction", None, 10, 6, (
+        "the feeder, line 6:",
+        "    N1,N2,AB,R,0,0,0,12000,200,63.5,10,1000000,1500000,0,0,0",
+        "Column p6 (potential ratio) has 63.5: a number is whole, with no decimal point.",
+        "A ratio that is not whole is multiplied by a number, as 63.5 by 2. p4, p5, p8 and p9 are then divided by the same number.",
+    )),
+    Mistake("level_with_decimal_point", None, 10, 6, (
+        "the feeder, line 6:",
+        "    N1,N2,AB,R,0,0,0,120.0,2.0,60,10,1000000,1500000,0,0,0",
+        "Column p4 (level) has 120.0: a number is whole, in cV (0.01 V), with no decimal point.",
+        "Write 120 if it is in cV (0.01 V); 120 V is 12000.",
+        "Column p5 likewise: write 2 if it is in cV (0.01 V); 2 V is 200.",
+    )),
+    Mistake("level_in_volts", None, 0, 0, (
+        "The report is made. Please look at:",
+        "Line 6: the taps of A and B stand at -16 and still want down: the relays have 106.143 V and 107.573 V, and level and half the bandwidth is 1.21 V; the level is in cV: 120 V is 12000.",
+    )),
+    Mistake("taps_at_their_end", None, 0, 0, (
+        "The report is made. Please look at:",
+        "Line 6: the taps of A and B stand at 16 and still want up: the relays have 130.833 V and 131.795 V, and level less half the bandwidth is 139.00 V.",
+    )),
+    Mistake("bandwidth_below_a_step", None, 0, 0, (
+        "The report is made. Please look at:",
+        "Line 6: the bandwidth is 0.70 V, and a step moves the relay by about 0.74 V: with a little other load the rounds may not end.",
+    )),
+    Mistake("regulator_with_thirteen_values", None, 24, 6, (
+        "the feeder, line 6:",
+        "    N1,N2,AB,R,0,0,0,12000,200,60,10,1000000,1500000,9,0,0",
+        "The row has p10 (not used) 9: a row of kind R (regulator) uses p1 to p9, and 0 is due in the others.",
+    )),
+    Mistake("ratios_missing", None, 11, 6, (
+        "the feeder, line 6:",
+        "    N1,N2,AB,R,0,0,0,12000,200,0,0,1000000,1500000,0,0,0",
+        "Column p6 (potential ratio) has 0: the limit is 1 to 10000.",
+        "Column p7 (current ratio) has 0: the limit is 1 to 10000.",
+        "The potential ratio is whole: 20 for 2400 V to 120 V.",
+        "A regulator with a level (p4) needs both ratios. With level 0 it keeps its taps, and p5 to p9 are 0.",
+    )),
+    Mistake("taps_set", "taps_set", 0, 0, ()),
+    Mistake("taps_set", "taps_table_missing", 50, 0, (
+        "the report:",
+        "The report ends without the taps table (to,tap_a,tap_b,tap_c), as reports from before version 0.5.0 do. It may do so only where no regulator has a level above 0: line 6 of the feeder has 120.00 V.",
+        "Study the feeder again.",
+    )),
+    Mistake("taps_set", "taps_table_empty", 50, 0, (
+        "the report:",
+        "The taps table has 0 rows; the feeder has 1 regulator: each has its row, one with level 0 too.",
+    )),
+    Mistake("taps_set", "tap_seventeen", 50, 0, (
+        "the report, line 16:",
+        "    N2,17,1,0",
+        "Column tap_a (tap of A) has 17: the limit is -16 to 16.",
+    )),
+    Mistake("taps_set", "tap_on_an_absent_phase", 50, 0, (
+        "the report, line 16:",
+        "    N2,3,1,1",
+        "Column tap_c (tap of C) has 1: line 6 of the feeder has phases A and B alone, and an absent phase has 0.",
+    )),
+    Mistake("taps_set", "taps_of_another_node", 51, 16, (
+        "the report, line 16:",
+        "    N9,3,1,0",
+        "Column to has N9: N2 is due, the to of the regulator in line 6 of the feeder.",
+        "The report belongs to another feeder, or one of the two files was changed since.",
+    )),
+    Mistake("taps_set", "tap_edited", 53, 8, (
+        "the report, line 8:",
+        "    S,N1,23671,-7003,-8022,-8275,-12042,-6956,23794404,45030757",
+        "Column ia_re (real part of the current of A) has 23671: the loads at the reported voltages make it 23779.",
+        "Column ia_im (imaginary part of the current of A) has -7003: the loads at the reported voltages make it -7039.",
+        "Only line 16 differs from the feeder's own report. There it has: N2,3,1,0",
+    )),
+    Mistake("taps_set", "tap_not_at_rest", 56, 16, (
+        "the report, line 16:",
+        "    N2,1,1,0",
+        "Column tap_a has 1: the relay has 118.047 V, below 119.00 V (level less half the bandwidth), so that the tap can move up as wanted.",
+        "The study of the feeder comes to 3, 1 and 0.",
+    )),
+    Mistake("sound", "fixed_tap_changed", 56, 16, (
+        "the report, line 16:",
+        "    N2,-2,4,0",
+        "Column tap_a has -2: line 6 of the feeder has level 0 and keeps its tap -3.",
     )),
 )

@@ -48,12 +48,13 @@ def sheets_of(feeder, separator=","):
     sources, branches, loads = [[row.split(",") for row in table.rstrip("\n").split("\n")[1:]] for table in feeder.split("\n\n")]
     tables = [[["source", *(f"v{phase}_{part}_v" for phase in "abc" for part in ("re", "im")), "tol_v", "sweeps"]]]
     tables[0] += [[row[0]] + [shifted(cell, 2) for cell in row[1:8]] + [row[8]] for row in sources]
-    names = ["from", "to", "phases", "kind", *convert.LINE_COLUMNS, *convert.TAP_COLUMNS, *convert.TRANSFORMER_COLUMNS]
+    names = ["from", "to", "phases", "kind", *convert.LINE_COLUMNS, *convert.TAP_COLUMNS, *convert.RELAY_COLUMNS, *convert.TRANSFORMER_COLUMNS]
     tables.append([names])
     for row in branches:
         columns = convert.PARAMETER_COLUMNS[row[3]]
         cells = dict(zip(names, row[:4]))
-        cells.update((column, shifted(cell, 6 if column.endswith("_ohm") else 0)) for column, cell in zip(columns, row[4:]))
+        decimals = [6 if column.endswith("_ohm") else 2 if column.endswith("_v") else 0 for column in columns]
+        cells.update((column, shifted(cell, places)) for column, places, cell in zip(columns, decimals, row[4:]))
         tables[1].append([cells.get(name, "") for name in names])
     tables.append([["node", "phase", "kind", "vn_v", "p_kw", "q_kvar"]])
     tables[2] += [row[:3] + [shifted(row[3], 2), shifted(row[4], 3), shifted(row[5], 3)] for row in loads]
@@ -115,6 +116,32 @@ class Examples(ConvertCase):
                 with self.subTest(path.name, separator=separator):
                     self.assertEqual(self.convert(*sheets_of(path.read_text(), separator)), (0, []))
                     self.assertEqual(self.output.read_bytes(), path.read_bytes())
+
+    def test_regulator_that_sets_its_taps(self):
+        sheet = "from,to,phases,kind,tap_a,tap_b,tap_c,level_v,band_v,potential_ratio,current_ratio,comp_r_ohm,comp_x_ohm\n"
+        for cells, row in (
+            (",,,121,2,20,200,1.46,2.84", "0,0,0,12100,200,20,200,1460000,2840000"),
+            ("-3,,,121.5,0,20,200,,", "-3,0,0,12150,0,20,200,0,0"),
+            ("9,,,0,,,,,", "9,0,0,0,0,0,0,0,0"),
+            ("9,,,,0,0,0,0,0", "9,0,0,0,0,0,0,0,0"),
+        ):
+            status, errors = self.convert(SOURCE_SHEET, sheet + f"S,N1,A,R,{cells}\n", LOAD_SHEET)
+            self.assertEqual(0, status, errors)
+            self.assertEqual(f"S,N1,A,R,{row},0,0,0", self.output.read_text().split("\n")[4])
+        self.assertEqual(self.convert(SOURCE_SHEET, sheet + "S,N1,A,R,,,,121,2,20,200,,\n", LOAD_SHEET)[1],
+                         ["sheet2.csv, row 2, column tap_a, comp_r_ohm, comp_x_ohm: no value, taken as 0"])
+        self.output.unlink()
+        for cells, refused in (
+            ("9,,,,2,,,,", "column band_v: 2 stands in a row without a level (level_v)"),
+            ("9,,,0,,20,,,", "column potential_ratio: 20 stands in a row without a level (level_v)"),
+            (",,,121,2,,200,,", "column potential_ratio: a value is missing"),
+            (",,,121,2,63.5,200,,", "column potential_ratio: 63.5 is not a whole number"),
+            (",,,200.01,2,20,200,,", "column level_v: outside 0 to 200 V"),
+            (",,,121,2,20,10001,,", "column current_ratio: outside 1 to 10000"),
+            (",1,,121,2,20,200,,", "column tap_b: 1 stands on a phase that the branch does not have"),
+            (",,,x,2,20,200,,", "column level_v: 'x' is no number: digits with one decimal point, and no mark between thousands"),
+        ):
+            self.assert_refused((SOURCE_SHEET, sheet + f"S,N1,A,R,{cells}\n", LOAD_SHEET), f"sheet2.csv, row 2, {refused}")
 
     def test_source_of_a_section_with_a_tie(self):
         # Half of 1503997 cV is 751998.5: away from zero, as in examples/section_from_a.feeder.

@@ -3,7 +3,7 @@ import unittest
 
 from flarecomb_tool import equations
 from flarecomb_tool.format import Branch, Load, read_feeder
-from tests.commands import OPPOSITE_ROW, feeder_text, line_row
+from tests.commands import OPPOSITE_ROW, feeder_text, line_row, regulator_row
 from tests.support import EXAMPLES
 
 
@@ -90,7 +90,8 @@ class BetweenPhases(unittest.TestCase):
         self.assertEqual([
             "node,va_re,va_im,vb_re,vb_im,vc_re,vc_im", "S,600000,0,-600000,0,0,0", "N1,599900,0,-599900,0,0,0", "",
             "from,to,ia_re,ia_im,ib_re,ib_im,ic_re,ic_im,loss_p,loss_q", "S,N1,1000,0,-1000,0,0,0,200000,0", "",
-            "sweeps,source_p,source_q,drawn_p,drawn_q,lost_p,lost_q", "2,1200000000,0,1199800000,0,200000,0",
+            "sweeps,source_p,source_q,drawn_p,drawn_q,lost_p,lost_q", "2,1200000000,0,1199800000,0,200000,0", "",
+            "to,tap_a,tap_b,tap_c",
         ], equations.report_lines(feeder, equations.study(feeder)))
 
 
@@ -172,6 +173,71 @@ class LowVoltage(unittest.TestCase):
     def test_a_report_below_70_per_cent_is_that_of_a_z_row(self):
         (power, as_power), (impedance, as_impedance) = (self.settled(f"N1,A,{kind},1100000,400000,100000") for kind in "PZ")
         self.assertEqual(equations.report_lines(power, as_power), equations.report_lines(impedance, as_impedance))
+
+
+class Taps(unittest.TestCase):
+    """Regulators that set their taps."""
+
+    def branch(self, level, band, potential=1, current=1, r=0, x=0, phases="A", taps=(0, 0, 0)):
+        return Branch(5, "S", "N1", phases, "R", (*taps, level, band, potential, current, r, x, 0, 0, 0))
+
+    def test_relay_voltage(self):
+        # 0.01 ohm and 1000 A at a ratio of 1 are 10 V
+        for numbers, voltage, current, relay in (
+            ((12000, 0, 60), (720000, -30), (0, 0), (12000, -1)),  # -30/60 is half a unit, which goes away from zero
+            ((12000, 0, 1, 1, 10000, 0), (12000, 0), (1000000, 0), (11000, 0)),
+            ((12000, 0, 1, 1, 0, 10000), (12000, 0), (1000000, 0), (12000, -1000)),
+            ((12000, 0, 1, 200, 1460000, 2840000), (0, 0), (1000, -2000), (-4, 0)),
+        ):
+            self.assertEqual(relay, equations.relay_voltage(self.branch(*numbers), voltage, current))
+
+    def test_document_004(self):
+        """With the taps at 0 document 004 prints 113.0, 111.3 and 109.0 V; from the voltages and currents that it prints the last is 109.9 V."""
+        feeder = read_feeder((EXAMPLES / "four_node_set.feeder").read_bytes())
+        studied = equations.one_round(feeder)
+        relays = [equations.relay_voltage(feeder.branches[2], studied.voltages["N3"][place], studied.currents["N3"][place]) for place in range(3)]
+        self.assertEqual([113.0, 111.2, 110.0], [round(abs(complex(*relay)) / 100, 1) for relay in relays])
+
+    def test_wanted_steps(self):
+        for level, band, sizes in (
+            (12000, 200, {11899: 1, 11900: 0, 12100: 0, 12101: -1}),
+            (12000, 1, {11999: 1, 12000: 0, 12001: -1}),
+            (12000, 0, {11999: 1, 12000: 0, 12001: -1}),
+            # twice the level is at most the bandwidth: no voltage is too low
+            (100, 200, {0: 0, 200: 0, 201: -1}),
+            (100, 201, {0: 0, 200: 0, 201: -1}),
+            (100, 199, {0: 1, 1: 0}),
+            (0, 0, {0: 0, 5: 0}),
+        ):
+            branch = self.branch(level, band)
+            for size, step in sizes.items():
+                for voltage in ((size, 0), (0, -size)):
+                    self.assertEqual([step, 0, 0], equations.wanted_steps(branch, [voltage] * 3, [(0, 0)] * 3), (level, band, voltage))
+
+    def test_steps_within_16(self):
+        for tap, low, high in ((16, 0, -1), (15, 1, -1), (-16, 1, 0), (-15, 1, -1)):
+            branch = self.branch(100, 0, phases="BC", taps=(0, tap, tap))
+            self.assertEqual([0, low, high], equations.steps_made(branch, [(0, 0), (99, 0), (101, 0)], [(0, 0)] * 3))
+
+    def test_rounds(self):
+        """31 moves at most: from -15 to 16 the rounds end, from -16 they do not."""
+        for tap, number, rounds in ((-15, None, 32), (-16, 35, 32), (16, None, 1)):
+            row = regulator_row("S", "N1", "A", (tap, 0, 0), (20000, 0, 100, 1, 0, 0))
+            studied = equations.study(read_feeder(feeder_text("S,720000,0,0,0,0,0,1,40", [row]).encode()))
+            self.assertEqual((number, rounds), (studied.trouble and studied.trouble.number, len(studied.tried)))
+            self.assertEqual((15 if number else 16, 0, 0), studied.tried[-1][0])
+
+    def test_all_phases_and_regulators_move_at_once(self):
+        feeder = read_feeder((EXAMPLES / "four_node_set.feeder").read_bytes())
+        tried = [taps[0] for taps in equations.study(feeder).tried]
+        self.assertEqual([(0, 0, 0), (1, 1, 1)], tried[:2])
+        self.assertEqual([(9, 9, 9), (9, 10, 10), (9, 11, 11), (9, 11, 12)], tried[9:])
+        self.assertEqual(13, len(tried))
+
+    def test_each_round_begins_anew(self):
+        """The report is that of the feeder with the reached taps fixed."""
+        set_taps, fixed = (read_feeder((EXAMPLES / f"{name}.feeder").read_bytes()) for name in ("four_node_set", "four_node_regulated"))
+        self.assertEqual(equations.report_lines(fixed, equations.study(fixed)), equations.report_lines(set_taps, equations.study(set_taps)))
 
 
 class Reports(unittest.TestCase):

@@ -7,8 +7,8 @@ import unittest
 
 from flarecomb_tool import equations, explain, notes
 from flarecomb_tool.explain_layout import HABITS
-from flarecomb_tool.format import FEEDER_TABLES, LARGEST_FILE, read_feeder
-from tests.commands import SOURCE_ROW, feeder_text, line_row, worked_report
+from flarecomb_tool.format import FEEDER_TABLES, LARGEST_FILE, read_feeder, read_report
+from tests.commands import SOURCE_ROW, feeder_text, line_row, regulator_row, without_taps, worked_report
 from tests.mistakes_table import MISTAKES
 from tests.support import EXAMPLES, MISTAKES_FOLDER, PROGRAMS, feeder_bytes, needs_programs, report_bytes
 
@@ -154,7 +154,7 @@ class Advice(unittest.TestCase):
             source[7], source[8] = match[2] or source[7], match[1] or source[8]
             lines[1] = ",".join(source).encode()
             written = self.study(b"\n".join(lines))
-            self.assertEqual(match[1] or match[3], written.split("\n")[-2].split(",")[0], mistake.feeder)
+            self.assertEqual(int(match[1] or match[3]), read_report(written.encode()).totals.sweeps, mistake.feeder)
 
     def test_power_loads_as_impedances(self):
         """With the load that goes to and fro across 70 per cent of vn as Z there is a report of so many sweeps."""
@@ -164,7 +164,68 @@ class Advice(unittest.TestCase):
             row = lines[int(match[1]) - 1]
             lines[int(match[1]) - 1] = row.replace(",P,", ",Z,")
             written = self.study("\n".join(lines).encode())
-            self.assertEqual(match[2], written.split("\n")[-2].split(",")[0], mistake.feeder)
+            self.assertEqual(int(match[2]), read_report(written.encode()).totals.sweeps, mistake.feeder)
+
+    def test_bandwidths_with_which_the_rounds_end(self):
+        for data, mistake, match in self.advised(r"With p5 \(bandwidth\) (\d+) \([^)]*\) in line (\d+) the rounds end"):
+            lines = data.decode().split("\n")
+            row = lines[int(match[2]) - 1].split(",")
+            row[8] = match[1]
+            lines[int(match[2]) - 1] = ",".join(row)
+            self.assertTrue(self.study("\n".join(lines).encode()).startswith("node,"), mistake.feeder)
+
+    def test_first_taps_from_which_the_rounds_end(self):
+        for data, mistake, match in self.advised(r"write them as p1 to p3, (-?\d+), (-?\d+) and (-?\d+) in line (\d+)\."):
+            lines = data.decode().split("\n")
+            row = lines[int(match[4]) - 1].split(",")
+            row[4:7] = match.groups()[:3]
+            lines[int(match[4]) - 1] = ",".join(row)
+            self.assertTrue(self.study("\n".join(lines).encode()).startswith("node,"), mistake.feeder)
+
+
+class Taps(unittest.TestCase):
+    """Refusals of regulators that set their taps, on feeders that mistakes/ does not have."""
+
+    def said(self, branches, loads, number, value, source="S,720000,0,0,0,0,0,1,40"):
+        data = feeder_text(source, branches, loads).encode()
+        trouble = equations.study(read_feeder(data)).trouble
+        self.assertEqual((number, value), (trouble.number, trouble.sweep))
+        return explain.study_refusal(data, number, value).split("\n")[1:]
+
+    def two(self, *bands):
+        """Two regulators, the upper with a compensator that is far larger than the line, the lower with none."""
+        return [regulator_row("S", "R1", "A", relay=(4000, bands[0], 60, 100, 30000000, 10000000)), line_row("R1", "N1", "A", [500000, 500000]),
+                regulator_row("N1", "R2", "A", relay=(11800, bands[1], 60, 100, 0, 0)), line_row("R2", "N2", "A", [1000000, 1000000])]
+
+    def test_two_regulators_in_a_circle(self):
+        loads = ["N2,A,Z,720000,1500000,500000"]
+        said = self.said(self.two(100, 100), loads, 35, 32)
+        self.assertEqual([
+            "The taps are those of round 28 again, so that the rounds would go on for ever. Taps move in lines 5 and 7.",
+            "Each of these regulators changes the voltage or the current that the others measure: look at R and X of their compensators.",
+            "With p5 (bandwidth) 200 (2.00 V) in line 5 and 200 (2.00 V) in line 7 the rounds end, after 16 rounds.",
+        ], said[1:])
+        ended = equations.study(read_feeder(feeder_text("S,720000,0,0,0,0,0,1,40", self.two(200, 200), loads).encode()))
+        self.assertEqual((None, 16), (ended.trouble, len(ended.tried)))
+
+    def test_a_later_round_is_named(self):
+        """At 19000 V each step up brings it nearer to the limit of 20000 V."""
+        said = self.said([regulator_row("S", "N1", "A", relay=(20000, 100, 120, 100, 0, 0))], [], 33, 0, "S,1900000,0,0,0,0,0,1,40")
+        self.assertEqual("This is in round 10, for which the regulators have set their taps to 9, 0 and 0 in line 5.", said[0])
+        self.assertTrue(said[1].startswith("Node N1 (line 5) comes to 20132.45 V and 0.00 V"), said[1])
+        self.assertIn("line 5 (taps 9, 0 and 0)", said[2])
+
+    def test_more_sweeps_help_the_round(self):
+        said = self.said([regulator_row("S", "R1", "A", relay=(12000, 200, 60, 100, 0, 0)), line_row("R1", "N1", "A", [1000000])],
+                         ["N1,A,P,720000,500000,0"], 34, 2, "S,720000,0,0,0,0,0,1,2")
+        self.assertEqual("With more sweeps this round settles: it takes 3.", said[-1])
+
+    def test_report_of_before(self):
+        """Edits in a report without the table of taps are compared with the feeder's own report in that form."""
+        feeder = (EXAMPLES / "four_node_regulated.feeder").read_bytes()
+        report = without_taps((EXAMPLES / "four_node_regulated.report").read_text())
+        text = explain.check_refusal(feeder, report.replace("7355513838", "7355513839").encode(), 55, 0)
+        self.assertIn("\nOnly line 12 differs from the feeder's own report.", text)
 
 
 class LowVoltage(unittest.TestCase):
@@ -280,7 +341,7 @@ class LowVoltage(unittest.TestCase):
         before = read._replace(loads=[load._replace(vn=1) if load.kind == "P" else load for load in read.loads])
         studied = equations.study(before)
         self.assertIsNone(studied.trouble)
-        return "\n".join(equations.report_lines(before, studied)) + "\n"
+        return without_taps("\n".join(equations.report_lines(before, studied)) + "\n")
 
     MAY_BE_OLDER = "The report may be older than version 0.4.0: with constant power at every voltage, as before it, all values agree."
     ACTS_AS_Z = "From that version on a P row acts as Z below 70 per cent of its vn, as here in"

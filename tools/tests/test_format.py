@@ -9,7 +9,7 @@ class Columns(unittest.TestCase):
         feeder = (EXAMPLES / "example.feeder").read_text().split("\n")
         report = (EXAMPLES / "example.report").read_text().split("\n")
         self.assertEqual([feeder[0], feeder[3], feeder[6]], [files.header(table) for table in files.FEEDER_TABLES])
-        self.assertEqual([report[0], report[4], report[7]], [files.header(table) for table in files.REPORT_TABLES])
+        self.assertEqual([report[0], report[4], report[7], report[10]], [files.header(table) for table in files.REPORT_TABLES])
 
     def test_each_kind_has_twelve_parameters(self):
         for kind, columns in files.PARAMETERS.items():
@@ -18,15 +18,24 @@ class Columns(unittest.TestCase):
     def test_zero_is_due_where_a_phase_is_absent(self):
         due = [column.name for column in files.PARAMETERS["L"] if files.zero_is_due(column, "AC")]
         self.assertEqual(["p3", "p4", "p7", "p8", "p9", "p10"], due)
-        self.assertEqual(["p2"] + [f"p{place}" for place in range(4, 13)],
-                         [column.name for column in files.PARAMETERS["R"] if files.zero_is_due(column, "AC")])
+        for level, first in ((0, 5), (1, 10), ("0", 5), ("12100", 10), ("", 10)):
+            self.assertEqual(["p2"] + [f"p{place}" for place in range(first, 13)],
+                             [column.name for column in files.parameters_of("R", level) if files.zero_is_due(column, "AC")])
         self.assertEqual(["p9", "p10", "p11", "p12"], [column.name for column in files.PARAMETERS["D"] if files.zero_is_due(column, "ABC")])
 
     def test_limits(self):
         taps = files.PARAMETERS["R"][0]
         self.assertEqual([True, False, False, True], [files.outside_limit(taps, tap) for tap in (-17, -16, 16, 17)])
-        # a field that can only be 0 has no limit
-        self.assertFalse(files.outside_limit(files.PARAMETERS["R"][3], 10**17))
+        # a field that can only be 0 has no limit; those of a regulator by its level
+        self.assertFalse(files.outside_limit(files.PARAMETERS["R"][9], 10**17))
+        for place in range(4, 9):
+            self.assertEqual([False, True], [files.outside_limit(files.parameters_of("R", level)[place], 10**17) for level in (0, 1)])
+
+    def test_limits_of_a_regulator_that_sets_its_taps(self):
+        for place, least, most in ((3, 0, 20000), (4, 0, 20000), (5, 1, 10000), (6, 1, 10000), (7, -10**8, 10**8), (8, -10**8, 10**8)):
+            column = files.parameters_of("R", 12100)[place]
+            self.assertEqual([True, False, False, True], [files.outside_limit(column, value) for value in (least - 1, least, most, most + 1)])
+        self.assertTrue(files.outside_limit(files.FIXED_REGULATOR[files.LEVEL], -1))
 
     def test_rated_voltage_by_the_phase(self):
         for word, most in (("A", 2000000), ("B", 2000000), ("C", 2000000), ("AB", 4000000), ("BC", 4000000), ("CA", 4000000)):
@@ -80,6 +89,26 @@ class Files(unittest.TestCase):
         self.assertEqual(files.NodeVoltage(5, "N3", ((704167, -1407), (0, 0), (0, 0))), report.nodes[3])
         self.assertEqual(files.BranchCurrent(10, "N2", "N3", ((17030, -5714), (0, 0), (0, 0)), 16127646, 22577394), report.currents[2])
         self.assertEqual((13, 3, 25245349164), report.totals[:3])
+
+    def test_report_with_and_without_taps(self):
+        report = (EXAMPLES / "four_node_set.report").read_bytes()
+        self.assertEqual([files.RegulatorTaps(18, "N3", (9, 11, 12))], files.read_report(report).taps)
+        self.assertEqual([], files.read_report((EXAMPLES / "example.report").read_bytes()).taps)
+        totals, table = report[:report.index(b"\nto,")], report[report.index(b"to,"):]
+        self.assertIsNone(files.read_report(totals).taps)
+        # the empty line and the table go together, and nothing follows the table
+        for data, line in ((totals + b"\n", 17), (totals + table, 16), (report + b"\n", 19), (report[:-1], 18), (totals + b"\n" + table[:20], 17)):
+            with self.assertRaises(files.NotLaidOut) as caught:
+                files.read_report(data)
+            self.assertEqual((50, line), (caught.exception.number, caught.exception.line))
+
+    def test_taps_put_into_a_feeder(self):
+        feeder = files.read_feeder((EXAMPLES / "four_node_set.feeder").read_bytes())
+        self.assertEqual(([(0, 0, 0)], True), (files.taps_of(feeder), files.sets_taps(feeder)))
+        changed = files.with_taps(feeder, [(1, -2, 3)])
+        self.assertEqual((1, -2, 3) + feeder.branches[2].parameters[3:], changed.branches[2].parameters)
+        self.assertEqual(feeder, files.with_taps(changed, [(0, 0, 0)]))
+        self.assertFalse(files.sets_taps(files.read_feeder((EXAMPLES / "four_node_regulated.feeder").read_bytes())))
 
     def test_lines_where_the_layout_is_left(self):
         sound = feeder_bytes("sound")

@@ -3,7 +3,7 @@ import unittest
 from flarecomb_tool import equations, notes
 from flarecomb_tool.format import read_feeder
 from flarecomb_tool.wording import lines_said
-from tests.commands import SOURCE_ROW, feeder_text, join, line_row
+from tests.commands import SOURCE_ROW, feeder_text, join, line_row, regulator_row
 
 LOAD = "N1,A,P,720000,72000,0"
 
@@ -45,6 +45,20 @@ class Notes(unittest.TestCase):
         self.assert_lines([2], "not 120 degrees apart", source=source_row(720000, 0, 360000, -623538, -360000, 623538))
         self.assert_lines([2], "not 120 degrees apart", source=source_row(720000, 0, 720000, 0, 720000, 0))
 
+    def test_taps_at_their_end(self):
+        for level, band, taps, word in ((14000, 200, (0, 0, 0), "the tap of A stands at 16 and still wants up"),
+                                        (9000, 200, (0, 0, 0), "the tap of A stands at -16 and still wants down"),
+                                        (120, 200, (0, 0, 0), "120 V is 12000")):
+            branch = regulator_row("S", "N1", "A", taps, (level, band, 60, 100, 0, 0))
+            self.assert_lines([5], word, branches=(branch,))
+        for relay in ((12000, 200, 60, 100, 0, 0), (0,) * 6):
+            self.assert_none(branches=(regulator_row("S", "N1", "A", (16, 0, 0) if not relay[0] else (0, 0, 0), relay),), loads=("N1,A,P,750000,72000,0",))
+
+    def test_bandwidth_below_a_step(self):
+        for band, expected in ((74, [5]), (75, [])):
+            self.assert_lines(expected, "with a little other load the rounds may not end",
+                              branches=(regulator_row("S", "N1", "A", (0, 0, 0), (12000, band, 60, 100, 0, 0)),))
+
     def test_no_load_rows(self):
         self.assert_lines([None], "no load rows", loads=())
 
@@ -59,7 +73,7 @@ class Notes(unittest.TestCase):
         for watts in range(1000, 9000, 37):
             branch, load = line_row("S", "N1", "A", [0, 100000]), f"N1,A,P,720000,{watts},{watts // 3}"
             feeder = read_feeder(feeder_text(SOURCE_ROW, [branch], [load]).encode())
-            lost = equations.report_lines(feeder, equations.study(feeder))[-1].split(",")[5]
+            lost = equations.report_lines(feeder, equations.study(feeder))[-3].split(",")[5]
             below_zero += int(lost) < 0
             self.assert_none(branches=(branch,), loads=(load,))
         self.assertGreater(below_zero, 0)

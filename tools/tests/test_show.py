@@ -100,7 +100,7 @@ class PowerAccount(unittest.TestCase):
         # 7200 V at tap 16 is 8000 V; 72 kW draw 9 A there, which is 160/144 times as much, 10 A, above the regulator.
         feeder = commands.feeder_text(commands.SOURCE_ROW, ["S,N1,A,R,16,0,0,0,0,0,0,0,0,0,0,0"], ["N1,A,P,800000,72000,0"])
         report = commands.report_text(["S,720000,0,-360000,-623538,-360000,623538", "N1,800000,0,0,0,0,0"], ["S,N1,9000,0,0,0,0,0,0,0"],
-                                      "2,7200000000,0,7200000000,0,0,0")
+                                      "2,7200000000,0,7200000000,0,0,0", ["N1,16,0,0"])
         account = join(feeder, report).account()
         self.assertEqual(account.difference, (0, 0))
         # The load: 2·1·9000 + 800000 + 1. The regulator, on A alone: 720000 + 2·1 + 9000.
@@ -244,6 +244,24 @@ class Figures(ShowCase):
     def test_a_regulator_does_not_step_the_base(self):
         base = join_example("four_node_regulated").base
         self.assertEqual(base["N3"], base["N3R"])
+
+    def test_regulators(self):
+        relay = ["121.00", "2.00", "20", "200", "1.460000", "2.840000"]
+        for name, row in (("four_node_set", relay), ("four_node_regulated", [None] * 6)):
+            table = tables.regulator_table(join_example(name))
+            self.assertEqual([["N3", *row, "9", "11", "12"]], [cells[:10] for cells in table.rows])
+        text = self.example("four_node_set")[1]
+        # Document 004 prints 120.3, 120.4 and 120.1 V.
+        for figure in ("\nRegulators\n", "120.23   120.38   120.16\n", "sets its taps, first taps A 0, B 0, C 0"):
+            self.assertIn(figure, text)
+        self.assertNotIn("Regulators", self.example("four_node")[1])
+
+    def test_report_without_taps(self):
+        feeder, report = ((EXAMPLES / f"four_node_regulated.{kind}").read_text() for kind in ("feeder", "report"))
+        before = join(feeder, commands.without_taps(report))
+        self.assertEqual(join(feeder, report).taps, before.taps)
+        self.assertEqual(tables.regulator_table(join(feeder, report)), tables.regulator_table(before))
+        self.assertIn(("taps", "the report has no table of taps: those of the feeder count"), tables.facts(before, b"", b"", []))
 
     def test_lowest_and_highest_by_per_unit(self):
         lowest, highest = join_example("four_node_regulated").extremes()
@@ -390,7 +408,10 @@ class Faults(ShowCase):
         for wrong_feeder, wrong_report, file_and_line, reason in (
                 (feeder.replace("N1,A,L", "n1,A,L"), report, "a.feeder, line 5:", "N1"),
                 (feeder, "refused 34 20\n", "a.report", "refused"),
-                (feeder, report[:-1], "a.report, line 9:", "LF"),
+                (feeder, report[:-1], "a.report, line 11:", "LF"),
+                (feeder, commands.without_taps(report)[:-1], "a.report, line 9:", "LF"),
+                (feeder, commands.without_taps(report) + "\n", "a.report, line 11:", "to,tap_a,tap_b,tap_c"),
+                (feeder, report + "N1,0,0,0\n", "a.report:", "0 regulators"),
                 (feeder, report.replace("N1", "N2"), "a.report, line 3:", "N2"),
                 (feeder.replace("1000000,", "100000001,"), report, "a.feeder, line 5:", "100000001"),
                 (feeder.replace("S,N1", "N1,N1"), report, "a.feeder, line 5:", "same node"),

@@ -235,6 +235,11 @@ class Diagram(unittest.TestCase):
         self.assertIn("transformer D 12470/2400", pages)
         self.assertIn("regulator 9/11/12", pages)
 
+    def test_taps_are_those_of_the_report(self):
+        """The feeder has 0, 0 and 0 as the first ones."""
+        pages = "".join(diagram.one_line_diagram(join_example("four_node_set")))
+        self.assertIn("regulator 9/11/12", pages)
+
 
 class Profile(unittest.TestCase):
     def test_a_mark_for_each_node_and_phase(self):

@@ -87,7 +87,7 @@ pub fn account(feeder: &Feeder, report: &Reported) -> Account {
                 allowance += 1 + current;
                 [[*aa, *ab, *ac], [*ab, *bb, *bc], [*ac, *bc, *cc]]
             }
-            Device::Regulator { .. } => {
+            Device::Regulator(_) => {
                 allowance += v + 2 * tol * count + current;
                 Default::default()
             }

@@ -3,7 +3,8 @@
 use crate::equations::{drop, voltage};
 use crate::feeder::{read_feeder, Feeder};
 use crate::ladder::{differ, Currents};
-use crate::report::{line_of_branch, line_of_node, read_report, Reported};
+use crate::relay::Taps;
+use crate::report::{line_of_branch, line_of_node, line_of_taps, read_report, Reported};
 use crate::{Answer, Refusal, MAX_FILE};
 
 /// Whether the report meets the equations and limits of its feeder.
@@ -18,8 +19,11 @@ fn examine(feeder: &[u8], report: &[u8]) -> Result<(), Refusal> {
     if report.len() > MAX_FILE {
         return Err((9, 0));
     }
-    let feeder = read_feeder(feeder)?;
+    let mut feeder = read_feeder(feeder)?;
     let report = read_report(&feeder, report)?;
+    // From here on all is worked with the taps of the report.
+    let given = feeder.taps();
+    feeder.set_taps(&report.taps);
 
     let mut currents = Currents::of(&feeder);
     currents.work(&feeder, &report.voltages).map_err(|number| (number, 0))?;
@@ -31,6 +35,9 @@ fn examine(feeder: &[u8], report: &[u8]) -> Result<(), Refusal> {
     }
     if currents.powers(&feeder, &report.voltages) != report.powers {
         return Err((55, 0));
+    }
+    if let Some(n) = first_not_at_rest(&feeder, &given, &report) {
+        return Err((56, line_of_taps(&feeder, n)));
     }
     Ok(())
 }
@@ -52,4 +59,13 @@ fn first_off(feeder: &Feeder, report: &Reported) -> Option<usize> {
         });
     }
     first
+}
+
+/// The first regulator, counted from 0, with a tap that could still move as wanted, at the reported voltages and currents;
+/// or, where it has no relay, with a tap that is not the given one of the feeder.
+fn first_not_at_rest(feeder: &Feeder, given: &[Taps], report: &Reported) -> Option<usize> {
+    feeder.regulators().zip(given).position(|((row, regulator), given)| {
+        let steps = regulator.steps(feeder.branches[row].phases, &report.voltages[row + 1], &report.currents[row]);
+        steps != [0; 3] || regulator.relay.is_none() && regulator.taps != *given
+    })
 }

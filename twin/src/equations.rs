@@ -1,12 +1,13 @@
 //! The equations of one load and one branch, in whole numbers.
 
 use crate::feeder::{Branch, Connection, Device, Kind, Load};
+use crate::relay::Regulator;
 
 /// Voltages and currents go from −LIMIT to LIMIT, re and im each.
 pub const LIMIT: i64 = 2_000_000;
 
 /// µΩ times mA is this many times smaller than a cV.
-const DROP_SCALE: i64 = 10_000_000;
+pub const DROP_SCALE: i64 = 10_000_000;
 
 /// Grains in a VA.
 const GRAINS: i64 = 100_000;
@@ -142,7 +143,7 @@ pub fn drop(device: &Device, i: &Phases) -> Phases {
             [aa * a + ab * b + ac * c, ab * a + bb * b + bc * c, ac * a + bc * b + cc * c]
                 .map(|sum| sum.rnd(DROP_SCALE))
         }
-        Device::Regulator { .. } => NONE,
+        Device::Regulator(_) => NONE,
         Device::Transformer { z, .. } => [z[0] * i[0], z[1] * i[1], z[2] * i[2]].map(|product| product.rnd(DROP_SCALE)),
     }
 }
@@ -151,7 +152,7 @@ pub fn drop(device: &Device, i: &Phases) -> Phases {
 pub fn voltage(branch: &Branch, v: &Phases, drop: &Phases) -> Phases {
     let mut below = match &branch.device {
         Device::Line { .. } => *v,
-        Device::Regulator { taps } => {
+        Device::Regulator(Regulator { taps, .. }) => {
             let side = |k: usize| v[k].times(160).rnd(160 - taps[k]);
             [side(0), side(1), side(2)]
         }
@@ -174,7 +175,7 @@ pub fn voltage(branch: &Branch, v: &Phases, drop: &Phases) -> Phases {
 pub fn taken(device: &Device, i: &Phases) -> Phases {
     match device {
         Device::Line { .. } => *i,
-        Device::Regulator { taps } => {
+        Device::Regulator(Regulator { taps, .. }) => {
             let side = |k: usize| i[k].times(160).rnd(160 - taps[k]);
             [side(0), side(1), side(2)]
         }
@@ -213,7 +214,7 @@ mod tests {
     }
 
     fn regulator(tap: i64) -> Branch {
-        let device = Device::Regulator { taps: [tap, 0, 0] };
+        let device = Device::Regulator(Regulator { taps: [tap, 0, 0], relay: None });
         Branch { from: 0, to: 0, parent: 0, phases: 1, device }
     }
 

@@ -1,6 +1,7 @@
-//! Every line that has the fault which was answered, for 11, 20 to 24 and 51 to 54. The conditions of document 01's table
-//! stand here a second time, row by row over the text; it need not be fast. By S-4 of document 02 the line answered
-//! is the first of these: the fuzzer sees that it is, and counts the calls where there are several.
+//! Every line that has the fault which was answered, for 11, 20 to 24, 51 to 54 and 56. The conditions of document 01's
+//! table, and those of request S-5 of document 02, stand here a second time, row by row over the text; it need not be fast.
+//! By S-4 and S-5 the line answered is the first of these: the fuzzer sees that it is, and counts the calls where there
+//! are several.
 
 use crate::equations::{drop, voltage, LIMIT};
 use crate::feeder::{read_feeder, Feeder};
@@ -14,13 +15,21 @@ pub fn lines_with(number: u32, feeder: &[u8], report: &[u8]) -> Option<Vec<u64>>
     match number {
         11 | 20..=24 => Some(in_feeder(number, feeder)),
         51 | 52 => Some(in_rows(number, feeder, report)),
+        56 => Some(taps_not_at_rest(feeder, report)),
         53 | 54 => {
-            let feeder = read_feeder(feeder).ok()?;
-            let report = read_report(&feeder, report).ok()?;
+            let (feeder, report) = with_reported_taps(feeder, report)?;
             Some(if number == 53 { currents_that_differ(&feeder, &report) } else { voltages_off(&feeder, &report) })
         }
         _ => None,
     }
+}
+
+/// Both files as read, if they can be, the feeder with the taps of the report.
+fn with_reported_taps(feeder: &[u8], report: &[u8]) -> Option<(Feeder, Reported)> {
+    let mut feeder = read_feeder(feeder).ok()?;
+    let report = read_report(&feeder, report).ok()?;
+    feeder.set_taps(&report.taps);
+    Some((feeder, report))
 }
 
 /// A row of a table: its line in the file, and its fields.
@@ -40,10 +49,10 @@ impl Row<'_> {
     }
 }
 
-/// The rows of the three tables of a file that is well laid out.
-fn tables(text: &[u8]) -> [Vec<Row<'_>>; 3] {
+/// The rows of the tables of a file that is well laid out: three of a feeder, three or four of a report.
+fn tables(text: &[u8]) -> [Vec<Row<'_>>; 4] {
     let text = std::str::from_utf8(text).expect("ASCII");
-    let mut tables = [Vec::new(), Vec::new(), Vec::new()];
+    let mut tables = [const { Vec::new() }; 4];
     let mut table = 0;
     let mut names = true;
     for (before, line) in text.lines().enumerate() {
@@ -65,7 +74,7 @@ fn all_in(word: &str, phases: &str) -> bool {
 }
 
 fn in_feeder(number: u32, text: &[u8]) -> Vec<u64> {
-    let [source, branches, loads] = tables(text);
+    let [source, branches, loads, _] = tables(text);
     let source = &source[0];
     let feeding = |node: &str| branches.iter().find(|row| row.fields[1] == node);
     let phases_at =
@@ -116,9 +125,14 @@ fn source_within(row: &Row) -> bool {
 fn branch_within(row: &Row) -> bool {
     match row.fields[3] {
         "L" => row.within(4..16, -100_000_000, 100_000_000),
-        "R" => row.within(4..7, -16, 16),
+        "R" => row.within(4..7, -16, 16) && row.within(7..8, 0, 20_000) && (row.number(7) == 0 || relay_within(row)),
         _ => row.within(4..6, 1, 1_000_000) && row.within(6..12, -100_000_000, 100_000_000),
     }
+}
+
+/// Whether p5 to p9 of a regulator row are within the limits that they have at a level above 0.
+fn relay_within(row: &Row) -> bool {
+    row.within(8..9, 0, 20_000) && row.within(9..11, 1, 10_000) && row.within(11..13, -100_000_000, 100_000_000)
 }
 
 fn load_within(row: &Row) -> bool {
@@ -137,7 +151,8 @@ fn zeros_due(row: &Row) -> bool {
             .all(|(k, owners)| all_in(owners, phases) || zero(4 + 2 * k..6 + 2 * k)),
         "R" => {
             ["A", "B", "C"].iter().enumerate().all(|(k, owner)| all_in(owner, phases) || zero(4 + k..5 + k))
-                && zero(7..16)
+                && (row.number(7) > 0 || zero(7..13))
+                && zero(13..16)
         }
         _ => zero(12..16),
     }
@@ -145,14 +160,17 @@ fn zeros_due(row: &Row) -> bool {
 
 /// 51 and 52, which compare fields of the two files.
 fn in_rows(number: u32, feeder: &[u8], report: &[u8]) -> Vec<u64> {
-    let [source, branches, _] = tables(feeder);
-    let [nodes, flows, _] = tables(report);
+    let [source, branches, _, _] = tables(feeder);
+    let [nodes, flows, _, taps] = tables(report);
     let mut lines = Vec::new();
     if number == 51 {
         let names = std::iter::once(source[0].fields[0]).chain(branches.iter().map(|row| row.fields[1]));
         lines.extend(nodes.iter().zip(names).filter(|(row, name)| row.fields[0] != *name).map(|(row, _)| row.line));
         let pairs = flows.iter().zip(&branches);
         lines.extend(pairs.filter(|(row, due)| row.fields[..2] != due.fields[..2]).map(|(row, _)| row.line));
+        let regulators = branches.iter().filter(|row| row.fields[3] == "R");
+        let pairs = taps.iter().zip(regulators);
+        lines.extend(pairs.filter(|(row, due)| row.fields[0] != due.fields[1]).map(|(row, _)| row.line));
         return lines;
     }
     if nodes[0].fields[1..] != source[0].fields[1..7] {
@@ -165,6 +183,51 @@ fn in_rows(number: u32, feeder: &[u8], report: &[u8]) -> Vec<u64> {
         }
     }
     lines
+}
+
+/// 56, from the two texts: the rows of the last table with a tap that could still move as wanted, or that is not the feeder's
+/// where its level is 0. All numbers are wide enough for any that can be written.
+fn taps_not_at_rest(feeder: &[u8], report: &[u8]) -> Vec<u64> {
+    let [_, branches, _, _] = tables(feeder);
+    let [nodes, flows, _, taps] = tables(report);
+    let regulators = branches.iter().zip(nodes[1..].iter().zip(&flows)).filter(|(branch, _)| branch.fields[3] == "R");
+    let mut lines = Vec::new();
+    for ((branch, (node, flow)), row) in regulators.zip(&taps) {
+        let given = branch.number(7) == 0;
+        let moves = (0..3).any(|k| {
+            let tap = row.number(1 + k);
+            if given {
+                return tap != branch.number(4 + k);
+            }
+            let wanted = tap + way_wanted(branch, node, flow, k);
+            branch.fields[2].contains(["A", "B", "C"][k]) && wanted != tap && (-16..=16).contains(&wanted)
+        });
+        if moves {
+            lines.push(row.line);
+        }
+    }
+    lines
+}
+
+/// 1, −1 or 0: which way a phase's tap is wanted, by the node's row and the branch's row of the report.
+fn way_wanted(branch: &Row, node: &Row, flow: &Row, phase: usize) -> i64 {
+    let p = |n: usize| i128::from(branch.number(3 + n));
+    let (v_re, v_im) = (node.number(1 + 2 * phase).into(), node.number(2 + 2 * phase).into());
+    let (i_re, i_im) = (i128::from(flow.number(2 + 2 * phase)), i128::from(flow.number(3 + 2 * phase)));
+    // To the nearest whole number, a tie away from zero.
+    let nearest = |a: i128, b: i128| (2 * a.abs() + b) / (2 * b) * a.signum();
+    let drop = |product: i128| nearest(product, p(7) * 10_000_000);
+    let re = nearest(v_re, p(6)) - drop(p(8) * i_re - p(9) * i_im);
+    let im = nearest(v_im, p(6)) - drop(p(8) * i_im + p(9) * i_re);
+    let twice = (2 * re).pow(2) + (2 * im).pow(2);
+    let (low, high) = (2 * p(4) - p(5), 2 * p(4) + p(5));
+    if twice > high.pow(2) {
+        -1
+    } else if low > 0 && twice < low.pow(2) {
+        1
+    } else {
+        0
+    }
 }
 
 fn currents_that_differ(feeder: &Feeder, report: &Reported) -> Vec<u64> {
@@ -228,8 +291,7 @@ pub struct PassedOver {
 
 /// The rows that 54 passes over in a report that is answered with it.
 pub fn passed_over(feeder: &[u8], report: &[u8]) -> Vec<PassedOver> {
-    let Ok(feeder) = read_feeder(feeder) else { return Vec::new() };
-    let Ok(report) = read_report(&feeder, report) else { return Vec::new() };
+    let Some((feeder, report)) = with_reported_taps(feeder, report) else { return Vec::new() };
     let rows = (1..=feeder.branches.len()).map(|node| (node, standing(&feeder, &report, node)));
     rows.filter(|(_, standing)| standing.off && standing.below_off)
         .map(|(node, standing)| PassedOver { line: line_of_node(node), parent_within: !standing.parent_off })

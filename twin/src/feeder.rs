@@ -2,6 +2,7 @@
 
 use crate::equations::{Pair, Phases, LIMIT};
 use crate::place::Place;
+use crate::relay::{Regulator, Relay, Taps, MOST_TAP};
 use crate::text::Reader;
 use crate::{Refusal, MAX_FILE};
 
@@ -17,11 +18,13 @@ const FIRST_BRANCH: u64 = 5;
 
 const OHMS: i64 = 100_000_000;
 const TURNS: i64 = 1_000_000;
-const TAPS: i64 = 16;
 const VA: i64 = 3_000_000;
+/// Of a regulator's level and band, in cV.
+const LEVELS: i64 = 20_000;
+const RATIOS: i64 = 10_000;
 
 /// A feeder with nothing wrong. Node 0 is the source, node i + 1 the to-node of branch row i.
-#[derive(Debug)]
+#[derive(Clone, Debug)]
 pub struct Feeder {
     pub source: u64,
     pub source_v: Phases,
@@ -33,7 +36,7 @@ pub struct Feeder {
     pub order: Vec<usize>,
 }
 
-#[derive(Debug)]
+#[derive(Clone, Debug)]
 pub struct Branch {
     pub from: u64,
     pub to: u64,
@@ -44,15 +47,13 @@ pub struct Branch {
     pub device: Device,
 }
 
-#[derive(Debug)]
+#[derive(Clone, Debug)]
 pub enum Device {
     /// aa, ab, ac, bb, bc, cc
     Line {
         z: [Pair; 6],
     },
-    Regulator {
-        taps: [i64; 3],
-    },
+    Regulator(Regulator),
     Transformer {
         connection: Connection,
         n: i64,
@@ -67,7 +68,7 @@ pub enum Connection {
     Delta,
 }
 
-#[derive(Debug)]
+#[derive(Clone, Debug)]
 pub struct Load {
     pub name: u64,
     pub node: usize,
@@ -91,6 +92,29 @@ impl Feeder {
         match node {
             0 => 7,
             _ => self.branches[node - 1].phases,
+        }
+    }
+
+    /// The regulators in row order, each with its branch row.
+    pub fn regulators(&self) -> impl Iterator<Item = (usize, &Regulator)> {
+        self.branches.iter().enumerate().filter_map(|(row, branch)| match &branch.device {
+            Device::Regulator(regulator) => Some((row, regulator)),
+            _ => None,
+        })
+    }
+
+    /// Their taps in use.
+    pub fn taps(&self) -> Vec<Taps> {
+        self.regulators().map(|(_, regulator)| regulator.taps).collect()
+    }
+
+    /// Uses these taps, one entry for each regulator in row order.
+    pub fn set_taps(&mut self, taps: &[Taps]) {
+        let mut taps = taps.iter();
+        for branch in &mut self.branches {
+            if let Device::Regulator(regulator) = &mut branch.device {
+                regulator.taps = *taps.next().expect("taps for every regulator");
+            }
         }
     }
 }
@@ -202,7 +226,9 @@ fn read_branch(reader: &mut Reader) -> Option<(Branch, bool, bool)> {
         b'R' => {
             let taps = [p[0], p[1], p[2]];
             let absent = taps.iter().zip([1, 2, 4]).all(|(tap, owner)| has(owner) || *tap == 0);
-            (Device::Regulator { taps }, all_within(&taps, TAPS), absent && all_within(&p[3..], 0))
+            let (relay, within, zeros) = relay_of([p[3], p[4], p[5], p[6], p[7], p[8]]);
+            let device = Device::Regulator(Regulator { taps, relay });
+            (device, within && all_within(&taps, MOST_TAP), zeros && absent && all_within(&p[9..], 0))
         }
         _ => {
             let connection = if kind == b'Y' { Connection::Wye } else { Connection::Delta };
@@ -213,6 +239,23 @@ fn read_branch(reader: &mut Reader) -> Option<(Branch, bool, bool)> {
         }
     };
     Some((Branch { from, to, parent: 0, phases, device }, within, zeros))
+}
+
+/// The relay that p4 to p9 of a regulator row name, whether they are within their limits, and whether those that must be 0
+/// are 0. At level 0 there is no relay, and the others must be 0 and have no limit; else they have their limits.
+fn relay_of(p: [i64; 6]) -> (Option<Relay>, bool, bool) {
+    let [level, band, potential_ratio, current_ratio, r, x] = p;
+    if level == 0 {
+        return (None, true, all_within(&p, 0));
+    }
+    let ratios = 1..=RATIOS;
+    let within = (1..=LEVELS).contains(&level)
+        && (0..=LEVELS).contains(&band)
+        && ratios.contains(&potential_ratio)
+        && ratios.contains(&current_ratio)
+        && all_within(&[r, x], OHMS);
+    let compensator = Pair { re: r, im: x };
+    (Some(Relay { level, band, potential_ratio, current_ratio, compensator }), within, true)
 }
 
 /// A load row, and whether its values are within their limits.

@@ -1,14 +1,17 @@
 //! A seeded generator of feeders and reports: sound, mangled, at the limits, at low voltage, with one fault in several rows,
-//! and edited.
+//! and edited. What it draws for regulators that set their taps stands in `generate_taps`.
 
 use crate::equations::{drop, voltage, Pair, Phases, LIMIT, NONE, ZERO};
 use crate::feeder::{
     read_feeder, Feeder, Kind, Load, BRANCH_HEADER, LOAD_HEADER, MAX_BRANCHES, MAX_LOADS, SOURCE_HEADER,
 };
+use crate::generate_taps::{give_relays, regulators, rested_elsewhere, tap_report, without_table};
 use crate::ladder::{settle, Currents, Powers};
 use crate::place::Place;
-use crate::report::{line_of_branch, line_of_node, write_rows};
+use crate::report::{line_of_branch, line_of_node, line_of_taps, write_rows, TOTAL_HEADER};
+use crate::rounds::settle_taps;
 use crate::MAX_FILE;
+use std::ops::Range;
 
 /// Splitmix64.
 #[derive(Clone)]
@@ -46,11 +49,12 @@ impl Random {
         &list[self.below(list.len())]
     }
 
-    fn share(&mut self) -> f64 {
+    /// 0 to 1, the end left out.
+    pub fn share(&mut self) -> f64 {
         (self.word() >> 11) as f64 / (1u64 << 53) as f64
     }
 
-    fn shuffle<T>(&mut self, list: &mut [T]) {
+    pub fn shuffle<T>(&mut self, list: &mut [T]) {
         for k in (1..list.len()).rev() {
             list.swap(k, self.below(k + 1));
         }
@@ -103,6 +107,7 @@ struct Node {
 macro_rules! row {
     ($($field:expr),* $(,)?) => { vec![$($field.to_string()),*] };
 }
+pub(crate) use row;
 
 fn phases_word(phases: u8) -> String {
     "ABC".chars().enumerate().filter(|(k, _)| phases & 1 << k != 0).map(|(_, letter)| letter).collect()
@@ -120,7 +125,7 @@ fn fresh_name(random: &mut Random, taken: &[Node]) -> String {
 }
 
 /// The fields of a source row at this voltage, with tol and sweeps.
-fn source_row(name: &str, cv: i64, tol: i64, sweeps: i64) -> Vec<String> {
+pub fn source_row(name: &str, cv: i64, tol: i64, sweeps: i64) -> Vec<String> {
     let (half, side) = (-cv / 2, (cv as f64 * 0.866_025_403_784).round() as i64);
     row![name, cv, 0, half, -side, half, side, tol, sweeps]
 }
@@ -277,7 +282,8 @@ pub fn between_phases(random: &mut Random, draft: &mut Draft, n: usize) {
     }
 }
 
-/// Sizes as a fuzzer wants them: mostly small, now and then full. Half of them have loads between two phases.
+/// Sizes as a fuzzer wants them: mostly small, now and then full. Half of them have loads between two phases, and in one of
+/// four some regulators set their taps.
 pub fn some_sound(random: &mut Random) -> Draft {
     let most = *random.pick(&[1, 3, 3, 6, 6, 12, 30, MAX_BRANCHES]);
     let least = if random.once_in(20) { 0 } else { 1 };
@@ -288,6 +294,9 @@ pub fn some_sound(random: &mut Random) -> Draft {
     if random.once_in(2) {
         let n = *random.pick(&[1, 2, 4]);
         between_phases(random, &mut draft, n);
+    }
+    if random.once_in(4) {
+        give_relays(random, &mut draft, 2);
     }
     draft
 }
@@ -407,6 +416,10 @@ pub fn wrong(random: &mut Random) -> Draft {
                     1,
                     16,
                     17,
+                    10_000,
+                    10_001,
+                    20_000,
+                    20_001,
                     1_000_000,
                     1_000_001,
                     100_000_000,
@@ -551,7 +564,7 @@ pub fn mangle(random: &mut Random, text: &[u8]) -> Vec<u8> {
     text
 }
 
-fn edit_lines(random: &mut Random, text: &[u8], edit: impl Fn(&mut Random, &mut Vec<Vec<u8>>)) -> Vec<u8> {
+pub fn edit_lines(random: &mut Random, text: &[u8], edit: impl Fn(&mut Random, &mut Vec<Vec<u8>>)) -> Vec<u8> {
     let mut lines: Vec<Vec<u8>> = text.split(|b| *b == b'\n').map(<[u8]>::to_vec).collect();
     edit(random, &mut lines);
     lines.join(&b'\n')
@@ -849,8 +862,8 @@ fn near_edge(random: &mut Random, v: Pair, most: i64) -> i64 {
 /// Gives P rows, one in n, a vn near the edge at the voltages that the study reports. As a rule a row that was constant
 /// power and stays so changes no answer by that; one that becomes an impedance does, and the feeder may then not settle.
 fn aim(random: &mut Random, draft: &mut Draft, n: usize) {
-    let Ok(feeder) = read_feeder(&draft.text()) else { return };
-    let Ok(settled) = settle(&feeder) else { return };
+    let Ok(mut feeder) = read_feeder(&draft.text()) else { return };
+    let Ok(settled) = settle_taps(&mut feeder) else { return };
     for (row, load) in draft.loads.iter_mut().zip(&feeder.loads) {
         if load.kind == Kind::Power && random.once_in(n) {
             let v = load.place.voltage(&settled.voltages[load.node]);
@@ -1049,6 +1062,17 @@ pub fn several_faults(random: &mut Random) -> Draft {
     draft
 }
 
+/// The columns of a regulator row that have limits, with values past them: taps, twice, and level; then what has limits only
+/// where a level is above 0.
+const BEYOND_OF_REGULATORS: [(Range<i64>, [i64; 2]); 6] = [
+    (4..7, [17, -17]),
+    (4..7, [17, -17]),
+    (7..8, [-1, 20_001]),
+    (8..9, [-1, 20_001]),
+    (9..11, [0, 10_001]),
+    (11..13, [100_000_001, -100_000_001]),
+];
+
 /// Puts a fault of this number into a row, and none of a lower number as a rule.
 fn add_fault(random: &mut Random, draft: &mut Draft, number: u32) {
     let branch = random.below(draft.branches.len());
@@ -1070,9 +1094,11 @@ fn add_fault(random: &mut Random, draft: &mut Draft, number: u32) {
             1 if random.once_in(3) => overfill(random, draft),
             1..=4 => {
                 let row = &mut draft.branches[branch];
+                // Without a level only taps and level have limits.
+                let of_regulators = if row[7] == "0" { &BEYOND_OF_REGULATORS[..3] } else { &BEYOND_OF_REGULATORS };
                 let (columns, beyond) = match row[3].as_str() {
                     "L" => (4..16, [100_000_001, -100_000_001]),
-                    "R" => (4..7, [17, -17]),
+                    "R" => random.pick(of_regulators).clone(),
                     _ => (4..6, [0, 1_000_001]),
                 };
                 row[random.between(columns.start, columns.end - 1) as usize] = random.pick(&beyond).to_string();
@@ -1137,7 +1163,11 @@ fn add_fault(random: &mut Random, draft: &mut Draft, number: u32) {
             let present = |word: &str| word.chars().all(|letter| row[2].contains(letter));
             let due: Vec<usize> = match row[3].as_str() {
                 "L" => (4..16).filter(|k| !present(["A", "AB", "AC", "B", "BC", "C"][(k - 4) / 2])).collect(),
-                "R" => (4..16).filter(|k| *k > 6 || !present(["A", "B", "C"][k - 4])).collect(),
+                // p4 is no such column: a level above 0 gives the others their limits.
+                "R" => {
+                    let first = if row[7] == "0" { 8 } else { 13 };
+                    (4..16).filter(|k| *k >= first || *k < 7 && !present(["A", "B", "C"][k - 4])).collect()
+                }
                 _ => (12..16).collect(),
             };
             row[*random.pick(&due)] = random.pick(&["1", "-1", "16"]).to_string();
@@ -1174,7 +1204,7 @@ pub fn unordered(random: &mut Random) -> Draft {
 
 /// Any feeder file.
 pub fn any_feeder(random: &mut Random) -> Vec<u8> {
-    match random.below(20) {
+    match random.below(27) {
         0..=2 => some_sound(random).text(),
         3 | 4 => hard(random).text(),
         5 | 6 => wrong(random).text(),
@@ -1195,6 +1225,15 @@ pub fn any_feeder(random: &mut Random) -> Vec<u8> {
         11..=14 => low_voltages(random).text(),
         15 | 16 => several_faults(random).text(),
         17 | 18 => unordered(random).text(),
+        19..=24 => regulators(random).text(),
+        25 => {
+            let text = regulators(random).text();
+            if random.once_in(4) {
+                mangle(random, &text)
+            } else {
+                text
+            }
+        }
         _ => {
             let text = boundary(random);
             if text.len() < 5_000 {
@@ -1206,8 +1245,8 @@ pub fn any_feeder(random: &mut Random) -> Vec<u8> {
     }
 }
 
-/// A report for the feeder: its own, an edited one, or one worked from voltages of our choosing, so that names and
-/// currents agree and only voltages or totals may not.
+/// A report for the feeder: its own, an edited one, or one worked from voltages or taps of our choosing, so that names and
+/// currents agree and only voltages, totals or taps may not. One in twelve is then filed without the table of taps.
 pub fn any_report(random: &mut Random, feeder: &[u8]) -> Vec<u8> {
     let Ok(read) = read_feeder(feeder) else {
         // No report belongs to it; anything will do.
@@ -1217,10 +1256,26 @@ pub fn any_report(random: &mut Random, feeder: &[u8]) -> Vec<u8> {
             _ => feeder.to_vec(),
         };
     };
-    let own = forge(random, &read, 0);
+    let with_relay = read.regulators().any(|(_, regulator)| regulator.relay.is_some());
+    let mut last = at_last_taps(&read);
+    if with_relay && settle(&last).is_err() && !random.once_in(3) {
+        // The study has no report there; other taps may have one.
+        last = rested_elsewhere(random, &read);
+    }
+    let own = forge(random, &last, 0);
+    let for_taps = if with_relay {
+        2
+    } else if read.regulators().next().is_some() {
+        4
+    } else {
+        20
+    };
+    if random.once_in(for_taps) {
+        return tap_report(random, &read, &last, &own);
+    }
     // The last two kinds, with a fault in several rows, are for feeders that have several.
     let kinds = if read.branches.len() < 3 { 12 } else { 20 };
-    match random.below(kinds) {
+    let report = match random.below(kinds) {
         0 | 1 => own,
         2 | 3 => mangle(random, &own),
         4 | 5 => edit_digit(random, &own),
@@ -1234,21 +1289,39 @@ pub fn any_report(random: &mut Random, feeder: &[u8]) -> Vec<u8> {
             }
         },
         12..=15 => edit_several(random, &read, &own),
-        16..=19 => forge_off(random, &read),
+        16..=19 => forge_off(random, &last),
         _ => {
             let moves = random.between(1, 3) as usize;
-            forge(random, &read, moves)
+            forge(random, &last, moves)
         }
+    };
+    if random.once_in(12) {
+        without_table(&report)
+    } else {
+        report
     }
 }
 
-/// A report worked from the study's voltages (or any, where it does not settle), some of them moved.
-pub fn forge(random: &mut Random, feeder: &Feeder, moves: usize) -> Vec<u8> {
-    let nodes = feeder.branches.len() + 1;
-    let (mut voltages, sweeps) = match settle(feeder) {
+/// The feeder with the taps that its study ends with, refused or not.
+pub fn at_last_taps(feeder: &Feeder) -> Feeder {
+    let mut feeder = feeder.clone();
+    // Its answer is compared elsewhere.
+    let _ = settle_taps(&mut feeder);
+    feeder
+}
+
+/// The voltages and the sweeps of one round with the taps in use; where it is refused, V0 held within the limit, and 1.
+pub fn one_round(feeder: &Feeder) -> (Vec<Phases>, i64) {
+    match settle(feeder) {
         Ok(settled) => (settled.voltages, i64::from(settled.sweeps)),
         Err(_) => (downward_clamped(feeder), 1),
-    };
+    }
+}
+
+/// A report for the taps in use, worked from the voltages of one round, some of them moved.
+pub fn forge(random: &mut Random, feeder: &Feeder, moves: usize) -> Vec<u8> {
+    let nodes = feeder.branches.len() + 1;
+    let (mut voltages, sweeps) = one_round(feeder);
     let between: Vec<&Load> = feeder.loads.iter().filter(|load| load.place.is_delta()).collect();
     let powers: Vec<&Load> = feeder.loads.iter().filter(|load| load.kind == Kind::Power && load.node != 0).collect();
     for _ in 0..moves {
@@ -1305,10 +1378,7 @@ pub fn forge(random: &mut Random, feeder: &Feeder, moves: usize) -> Vec<u8> {
 /// within tol of them: reported are the worked voltages moved by a row of their own, worked anew until they stay.
 fn forge_off(random: &mut Random, feeder: &Feeder) -> Vec<u8> {
     let moved = some_moves(random, feeder);
-    let (mut voltages, sweeps) = match settle(feeder) {
-        Ok(settled) => (settled.voltages, i64::from(settled.sweeps)),
-        Err(_) => (downward_clamped(feeder), 1),
-    };
+    let (mut voltages, sweeps) = one_round(feeder);
     let mut currents = Currents::of(feeder);
     for _ in 0..30 {
         if currents.work(feeder, &voltages).is_err() {
@@ -1319,12 +1389,18 @@ fn forge_off(random: &mut Random, feeder: &Feeder) -> Vec<u8> {
             break;
         }
     }
-    if currents.work(feeder, &voltages).is_err() {
+    report_from(feeder, &voltages, sweeps)
+}
+
+/// A report for the taps in use with these voltages, and the currents and powers that follow from them.
+pub fn report_from(feeder: &Feeder, voltages: &[Phases], sweeps: i64) -> Vec<u8> {
+    let mut currents = Currents::of(feeder);
+    if currents.work(feeder, voltages).is_err() {
         // The check will meet 30 to 32 before it compares currents.
         currents = Currents::of(feeder);
     }
-    let powers = currents.powers(feeder, &voltages);
-    write_rows(feeder, &voltages, &currents.nodes[1..], &powers, sweeps)
+    let powers = currents.powers(feeder, voltages);
+    write_rows(feeder, voltages, &currents.nodes[1..], &powers, sweeps)
 }
 
 /// The voltages worked downward from the source with these currents, each then moved, and held within the limit.
@@ -1388,7 +1464,7 @@ fn move_one(random: &mut Random, feeder: &Feeder, node: usize, by: i64, moved: &
     *if random.once_in(2) { &mut v.re } else { &mut v.im } += by;
 }
 
-fn held(v: Pair) -> Pair {
+pub fn held(v: Pair) -> Pair {
     Pair { re: v.re.clamp(-LIMIT, LIMIT), im: v.im.clamp(-LIMIT, LIMIT) }
 }
 
@@ -1427,7 +1503,7 @@ fn move_to_edge(random: &mut Random, load: &Load, v: &mut Phases) {
 }
 
 /// V0, each voltage held within the limit.
-fn downward_clamped(feeder: &Feeder) -> Vec<Phases> {
+pub fn downward_clamped(feeder: &Feeder) -> Vec<Phases> {
     let mut voltages = vec![feeder.source_v; feeder.branches.len() + 1];
     for &row in &feeder.order {
         let branch = &feeder.branches[row];
@@ -1487,9 +1563,12 @@ fn edit_row(random: &mut Random, feeder: &Feeder, lines: &mut [Vec<u8>], number:
     let by = *random.pick(&[1, -1]);
     match number {
         51 => {
-            let any = random.below(2 * rows + 1);
-            let (at, column) =
-                if any <= rows { (at_node(any), 0) } else { (at_branch(any - rows - 1), random.below(2)) };
+            let any = random.below(2 * rows + 1 + feeder.regulators().count());
+            let (at, column) = match any {
+                any if any <= rows => (at_node(any), 0),
+                any if any <= 2 * rows => (at_branch(any - rows - 1), random.below(2)),
+                any => (line_of_taps(feeder, any - 2 * rows - 1) as usize - 1, 0),
+            };
             let other = at_node(random.below(rows + 1));
             let name = if random.once_in(2) {
                 random.pick(&["X", "S", "N1", "NOBODY"]).to_string()
@@ -1531,7 +1610,8 @@ fn edit_field(line: &mut Vec<u8>, column: usize, edit: impl FnOnce(&str) -> Stri
 /// Changes the number of sweeps.
 fn edit_sweeps(random: &mut Random, text: &[u8]) -> Vec<u8> {
     edit_lines(random, text, |random, lines| {
-        let Some(row) = lines.len().checked_sub(2) else { return };
+        let Some(names) = lines.iter().position(|line| line == TOTAL_HEADER.as_bytes()) else { return };
+        let row = names + 1;
         let mut fields: Vec<Vec<u8>> = lines[row].split(|b| *b == b',').map(<[u8]>::to_vec).collect();
         fields[0] = random.pick(&["0", "1", "2", "5", "20", "100", "101", "-1", "01"]).as_bytes().to_vec();
         lines[row] = fields.join(&b',');
@@ -1542,8 +1622,8 @@ fn edit_sweeps(random: &mut Random, text: &[u8]) -> Vec<u8> {
 mod tests {
     use super::*;
     use crate::faults::{lines_with, passed_over};
-    use crate::ladder::settle_watched;
     use crate::report::read_report;
+    use crate::rounds::settle_taps_watched;
     use crate::{check, parts, study, Answer};
 
     #[test]
@@ -1576,8 +1656,8 @@ mod tests {
             checked.insert(parts(check(&feeder, &report).word()).number);
         }
         let layout = [9, 10, 11, 20, 21, 22, 23, 24];
-        let in_study: Vec<u64> = [&[0], &layout[..], &[30, 31, 32, 33, 34, 40]].concat();
-        let in_check: Vec<u64> = [&[0], &layout[..], &[30, 31, 32, 50, 51, 52, 53, 54, 55]].concat();
+        let in_study: Vec<u64> = [&[0], &layout[..], &[30, 31, 32, 33, 34, 35, 40]].concat();
+        let in_check: Vec<u64> = [&[0], &layout[..], &[30, 31, 32, 50, 51, 52, 53, 54, 55, 56]].concat();
         assert_eq!(studied.into_iter().collect::<Vec<_>>(), in_study);
         assert_eq!(checked.into_iter().collect::<Vec<_>>(), in_check);
     }
@@ -1594,10 +1674,10 @@ mod tests {
             studied.insert(parts(study(&feeder, &mut out).word()).number);
             checked.insert(parts(check(&feeder, &report).word()).number);
         }
-        // 20 to 22 and 24 are faults of branch rows; 9 comes of a report that is too long.
+        // 20 to 22 and 24 are faults of branch rows, and no regulator sets its taps; 9 comes of a report that is too long.
         let in_reading = [10, 11, 23];
         let in_study: Vec<u64> = [&[0], &in_reading[..], &[30, 31, 32, 33, 34]].concat();
-        let in_check: Vec<u64> = [&[0, 9], &in_reading[..], &[30, 31, 32, 50, 51, 52, 53, 54, 55]].concat();
+        let in_check: Vec<u64> = [&[0, 9], &in_reading[..], &[30, 31, 32, 50, 51, 52, 53, 54, 55, 56]].concat();
         assert_eq!(studied.into_iter().collect::<Vec<_>>(), in_study);
         assert_eq!(checked.into_iter().collect::<Vec<_>>(), in_check);
     }
@@ -1685,8 +1765,16 @@ mod tests {
             let mut count = |what| *met.entry(what).or_default() += 1;
             let has = |kind| feeder.loads.iter().any(|load| load.kind == kind);
 
+            // Those of the last round.
             let mut sweeps: Vec<Vec<Phases>> = Vec::new();
-            let answer = settle_watched(&feeder, |v| sweeps.push(v.to_vec()));
+            let mut last = 0;
+            let answer = settle_taps_watched(&mut feeder.clone(), |round, v| {
+                if round > last {
+                    sweeps.clear();
+                    last = round;
+                }
+                sweeps.push(v.to_vec());
+            });
             let low: Vec<Vec<bool>> =
                 sweeps.iter().map(|v| feeder.loads.iter().map(|load| load.is_low(v)).collect()).collect();
             let is_low = low.iter().flatten().any(|low| *low);
@@ -1750,8 +1838,8 @@ mod tests {
                 }
             }
         }
-        // 11 and 20 to 24 of both calls, 51 to 54, and four kinds that are passed over.
-        assert_eq!(met.len(), 12 + 4 + 4, "{met:#?}");
+        // 11 and 20 to 24 of both calls, 51 to 54 and 56, and four kinds that are passed over.
+        assert_eq!(met.len(), 12 + 5 + 4, "{met:#?}");
         assert!(met.values().all(|count| *count >= 10), "{met:#?}");
     }
 

@@ -1,18 +1,22 @@
-//! A second study and check for radial feeders, written from documents 01 and 02 (S-1 to S-4) and
+//! A second study and check for radial feeders, written from documents 01 and 02 (S-1 to S-5) and
 //! docs/DECISIONS.md. Nothing here is proved.
 //!
 //! It is there to be compared with the proved programs (`bin/fuzz`) and to measure them against (`bin/bench`).
 
 pub mod account;
+pub mod cases;
 pub mod check;
 pub mod equations;
 pub mod faults;
 pub mod feeder;
 pub mod generate;
+pub mod generate_taps;
 pub mod ladder;
 pub mod outside;
 pub mod place;
+pub mod relay;
 pub mod report;
+pub mod rounds;
 pub mod text;
 
 pub use check::check;
@@ -73,11 +77,11 @@ impl From<Refusal> for Answer {
 
 /// Works the feeder and writes its report to the front of `out`. After a refusal `out` holds what it held.
 pub fn study(feeder: &[u8], out: &mut [u8]) -> Answer {
-    let feeder = match read_feeder(feeder) {
+    let mut feeder = match read_feeder(feeder) {
         Ok(feeder) => feeder,
         Err(refusal) => return refusal.into(),
     };
-    let settled = match ladder::settle(&feeder) {
+    let settled = match rounds::settle_taps(&mut feeder) {
         Ok(settled) => settled,
         Err(refusal) => return refusal.into(),
     };
@@ -113,6 +117,8 @@ S,N1,10014,0,0,0,0,0,10024014,0
 
 sweeps,source_p,source_q,drawn_p,drawn_q,lost_p,lost_q
 2,7210080000,0,7200066000,0,10024014,0
+
+to,tap_a,tap_b,tap_c
 ";
 
 #[cfg(test)]
@@ -196,6 +202,13 @@ mod tests {
         assert_eq!(edited("N1,719000", "N1,719002"), refused(54, 3));
         assert_eq!(edited("10024014,0\n\n", "10024014,1\n\n"), refused(55, 0));
         assert_eq!(edited("7200066000", "7200066001"), refused(55, 0));
+        // The table of taps has no rows here, and may be left out whole.
+        assert_eq!(edited("\nto,tap_a,tap_b,tap_c\n", ""), Answer::Pass);
+        assert_eq!(edited("to,tap_a,tap_b,tap_c\n", ""), refused(50, 0));
+        assert_eq!(edited("\nto,tap_a", "to,tap_a"), refused(50, 0));
+        assert_eq!(edited("tap_c\n", "tap_c"), refused(50, 0));
+        assert_eq!(edited("tap_c\n", "tap_c\n\n"), refused(50, 0));
+        assert_eq!(edited("tap_c\n", "tap_c\nN1,0,0,0\n"), refused(50, 0));
         let long = [b'x'; MAX_FILE + 1];
         assert_eq!(check(b"", &long), refused(9, 0));
         assert_eq!(check(b"", &long[1..]), refused(10, 1));
@@ -203,10 +216,10 @@ mod tests {
 
     #[test]
     fn words() {
-        assert_eq!(refused(40, 289).word(), 40 << 32 | 289);
-        assert_eq!(Answer::Report { length: 289, sweeps: 2 }.word(), 2 << 48 | 289);
+        assert_eq!(refused(40, 311).word(), 40 << 32 | 311);
+        assert_eq!(Answer::Report { length: 311, sweeps: 2 }.word(), 2 << 48 | 311);
         assert_eq!(Answer::Pass.word(), 0);
-        assert_eq!(parts(refused(40, 289).word()), Parts { number: 40, value: 289, sweeps: 0 });
+        assert_eq!(parts(refused(40, 311).word()), Parts { number: 40, value: 311, sweeps: 0 });
         assert_eq!(
             parts(Answer::Report { length: 65_536, sweeps: 100 }.word()),
             Parts { number: 0, value: 65_536, sweeps: 100 }

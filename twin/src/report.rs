@@ -3,19 +3,22 @@
 use crate::equations::{Pair, Phases, NONE, ZERO};
 use crate::feeder::Feeder;
 use crate::ladder::{any_beyond, Powers, Settled};
+use crate::relay::{Taps, MOST_TAP};
 use crate::text::{Reader, Writer};
 use crate::Refusal;
 
 pub const NODE_HEADER: &str = "node,va_re,va_im,vb_re,vb_im,vc_re,vc_im";
 pub const FLOW_HEADER: &str = "from,to,ia_re,ia_im,ib_re,ib_im,ic_re,ic_im,loss_p,loss_q";
 pub const TOTAL_HEADER: &str = "sweeps,source_p,source_q,drawn_p,drawn_q,lost_p,lost_q";
+pub const TAP_HEADER: &str = "to,tap_a,tap_b,tap_c";
 
-/// A report as it stands: `currents` and `powers.losses` by branch row, `voltages` by node.
+/// A report as it stands: `currents` and `powers.losses` by branch row, `voltages` by node, `taps` by regulator.
 pub struct Reported {
     pub voltages: Vec<Phases>,
     pub currents: Vec<Phases>,
     pub powers: Powers,
     pub sweeps: i64,
+    pub taps: Vec<Taps>,
 }
 
 /// The report line of a node.
@@ -28,16 +31,33 @@ pub fn line_of_branch(feeder: &Feeder, row: usize) -> u64 {
     line_of_node(feeder.branches.len()) + 3 + row as u64
 }
 
-/// The text of the study's report.
+/// The report line of the totals.
+pub fn line_of_totals(feeder: &Feeder) -> u64 {
+    line_of_branch(feeder, feeder.branches.len()) + 2
+}
+
+/// The report line of the taps of the n-th regulator, counted from 0.
+pub fn line_of_taps(feeder: &Feeder, n: usize) -> u64 {
+    line_of_totals(feeder) + 3 + n as u64
+}
+
+/// The sweeps that a report tells, if it has such a line: the number that its totals begin with.
+pub fn sweeps_told(report: &[u8]) -> Option<u32> {
+    let mut lines = report.split(|b| *b == b'\n').skip_while(|line| *line != TOTAL_HEADER.as_bytes());
+    let totals = lines.nth(1)?;
+    std::str::from_utf8(totals.split(|b| *b == b',').next()?).ok()?.parse().ok()
+}
+
+/// The text of the study's report; the feeder has the taps of the last round.
 pub fn write_report(feeder: &Feeder, settled: &Settled) -> Vec<u8> {
     let powers = settled.currents.powers(feeder, &settled.voltages);
     let i = &settled.currents.nodes[1..];
     write_rows(feeder, &settled.voltages, i, &powers, i64::from(settled.sweeps))
 }
 
-/// The text of a report with these numbers.
+/// The text of a report with these numbers and the taps that the feeder has in use.
 pub fn write_rows(feeder: &Feeder, voltages: &[Phases], currents: &[Phases], powers: &Powers, sweeps: i64) -> Vec<u8> {
-    let mut w = Writer::with_room(300 + 200 * feeder.branches.len());
+    let mut w = Writer::with_room(300 + 220 * feeder.branches.len());
     w.text(NODE_HEADER);
     w.end_of_line();
     let names = std::iter::once(feeder.source).chain(feeder.branches.iter().map(|branch| branch.to));
@@ -67,6 +87,17 @@ pub fn write_rows(feeder: &Feeder, voltages: &[Phases], currents: &[Phases], pow
         write_pair(&mut w, total);
     }
     w.end_of_line();
+    w.end_of_line();
+
+    w.text(TAP_HEADER);
+    w.end_of_line();
+    for (row, regulator) in feeder.regulators() {
+        w.name(feeder.branches[row].to);
+        for tap in regulator.taps {
+            w.next_number(tap);
+        }
+        w.end_of_line();
+    }
     w.into_bytes()
 }
 
@@ -145,10 +176,39 @@ fn read_tables(feeder: &Feeder, reader: &mut Reader, faults: &mut Faults) -> Opt
     let drawn = read_pair(reader)?;
     let lost = read_pair(reader)?;
     reader.end_of_line()?;
+
+    let taps = read_taps(feeder, reader, faults)?;
     if !reader.at_end() || !(1..=feeder.limit).contains(&sweeps) {
         return None;
     }
-    Some(Reported { voltages, currents, powers: Powers { losses, source, drawn, lost }, sweeps })
+    Some(Reported { voltages, currents, powers: Powers { losses, source, drawn, lost }, sweeps, taps })
+}
+
+/// The taps of all regulators. A report may end before its last table where no regulator has a relay: then they are the
+/// feeder's. A row belongs to the regulator at its place, whatever its name.
+fn read_taps(feeder: &Feeder, reader: &mut Reader, faults: &mut Faults) -> Option<Vec<Taps>> {
+    if reader.at_end() {
+        let fixed = feeder.regulators().all(|(_, regulator)| regulator.relay.is_none());
+        return fixed.then(|| feeder.taps());
+    }
+    reader.end_of_line()?;
+    reader.header(TAP_HEADER)?;
+    let mut all = Vec::new();
+    for (row, _) in feeder.regulators() {
+        let branch = &feeder.branches[row];
+        let line = reader.line();
+        if reader.name()? != branch.to {
+            faults.name.get_or_insert(line);
+        }
+        let taps: Taps = reader.next_numbers()?;
+        reader.end_of_line()?;
+        let most = |k: usize| if branch.phases & 1 << k != 0 { MOST_TAP } else { 0 };
+        if (0..3).any(|k| taps[k].abs() > most(k)) {
+            return None;
+        }
+        all.push(taps);
+    }
+    Some(all)
 }
 
 fn read_pair(reader: &mut Reader) -> Option<Pair> {

@@ -28,6 +28,8 @@ S,N,100,0,-100,0,0,0,2000,0
 
 sweeps,source_p,source_q,drawn_p,drawn_q,lost_p,lost_q
 2,60000000,0,59998000,0,2000,0
+
+to,tap_a,tap_b,tap_c
 ";
     (feeder, report.to_string())
 }
@@ -42,7 +44,7 @@ fn a_load_between_two_lines() {
     // V(1) is 10 away from V0: with tol 10 that is no move, and V0 is reported.
     let (feeder, _) = example(10);
     let report = studied(&feeder).unwrap();
-    assert!(report.contains("\nN,300000,0,-300000,0,0,0\n") && report.ends_with("\n1,60000000,0,60000000,0,2000,0\n"));
+    assert!(report.contains("\nN,300000,0,-300000,0,0,0\n") && report.contains("\n1,60000000,0,60000000,0,2000,0\n"));
 }
 
 #[test]
@@ -211,4 +213,5 @@ fn two_phase_nodes() {
     assert_eq!(lines[6..8], ["S,M,111,0,-100,0,0,0,0,0", "M,N,100,0,-100,0,0,0,0,0"]);
     // Source: 270000·111 + 300000·100; drawn: 600000·100.
     assert_eq!(lines[10], "1,59970000,0,60000000,0,0,0");
+    assert_eq!(lines[12..], ["to,tap_a,tap_b,tap_c", "N,16,0,0"]);
 }

@@ -25,7 +25,8 @@ fn report_of(volts: i64, at_n: i64, current: i64, sweeps: i64) -> String {
     format!(
         "node,va_re,va_im,vb_re,vb_im,vc_re,vc_im\nS,{volts},0,0,0,0,0\nN,{at_n},0,0,0,0,0\n\n\
          from,to,ia_re,ia_im,ib_re,ib_im,ic_re,ic_im,loss_p,loss_q\nS,N,{current},0,0,0,0,0,{loss},0\n\n\
-         sweeps,source_p,source_q,drawn_p,drawn_q,lost_p,lost_q\n{sweeps},{source},0,{drawn},0,{loss},0\n"
+         sweeps,source_p,source_q,drawn_p,drawn_q,lost_p,lost_q\n{sweeps},{source},0,{drawn},0,{loss},0\n\n\
+         to,tap_a,tap_b,tap_c\n"
     )
 }
 

@@ -1,4 +1,4 @@
-//! The programs as they are run: study, check, and a fuzzer that can fail.
+//! The programs as they are run: study, check, cases answered and answered anew, and a fuzzer that can fail.
 
 use std::io::Write;
 use std::process::{Command, Output, Stdio};
@@ -31,7 +31,10 @@ fn text(output: Output) -> String {
 #[test]
 fn study_and_check() {
     let report = study(FEEDER);
-    assert!(report.starts_with("node,") && report.ends_with("\n2,7210080000,0,7200066000,0,10024014,0\n"));
+    assert!(
+        report.starts_with("node,")
+            && report.ends_with("\n2,7210080000,0,7200066000,0,10024014,0\n\nto,tap_a,tap_b,tap_c\n")
+    );
     assert_eq!(study("x"), "refused 10 1\n");
     assert_eq!(study(&"x".repeat(65_537)), "refused 9 0\n");
 
@@ -46,6 +49,43 @@ fn study_and_check() {
     };
     assert_eq!(check(&good), "pass\n");
     assert_eq!(check(&bad), "refused 53 6\n");
+    std::fs::remove_dir_all(&folder).expect("the folder goes");
+}
+
+#[test]
+fn cases_are_answered_anew() {
+    let folder = std::env::temp_dir().join(format!("twin-cases-{}", std::process::id()));
+    let (given, anew) = (folder.join("given"), folder.join("anew"));
+    std::fs::create_dir_all(given.join("f")).expect("a folder");
+    // A report from before there was a table of taps.
+    let report = study(FEEDER);
+    let old = report.strip_suffix("\nto,tap_a,tap_b,tap_c\n").expect("a table of taps");
+    std::fs::write(given.join("f/1.feeder"), FEEDER).expect("a file");
+    std::fs::write(given.join("f/1.report"), old).expect("a file");
+    let case = |name: &str, call: &str, rest: &str| {
+        format!("{{\"name\": \"{name}\", \"call\": \"{call}\", \"feeder\": \"f/1.feeder\", {rest}, \"more\": [1]}}\n")
+    };
+    let expected = |answer: &str| format!("\"expected\": {{\"answer\": {answer}}}");
+    let refusal = expected(&format!("\"refuse\", \"number\": 40, \"values\": [{}]", old.len()));
+    let list = [
+        case("a", "study", &format!("\"buffer\": null, {}", expected("\"report\", \"file\": \"f/1.report\""))),
+        case("b", "study", &format!("\"buffer\": 7, {refusal}")),
+        case("c", "check", &format!("\"report\": \"f/1.report\", {}", expected("\"pass\""))),
+    ];
+    std::fs::write(given.join("index.jsonl"), list.concat()).expect("a file");
+    let vectors = |folder: &std::path::Path| {
+        text(Command::new(env!("CARGO_BIN_EXE_vectors")).arg(folder).output().expect("the program runs"))
+    };
+    assert!(vectors(&given).ends_with("\n3 cases, 2 differences\n"));
+    let run = Command::new(env!("CARGO_BIN_EXE_answers")).arg(given.join("index.jsonl")).arg(&anew).output();
+    let told = "1 40 with another length\n1 as before\n1 the report with its table of taps\n3 cases, 2 answered anew\n";
+    assert_eq!(text(run.expect("the program runs")), told);
+    assert_eq!(vectors(&anew), "3 cases, 0 differences\n");
+    let lines = std::fs::read_to_string(anew.join("index.jsonl")).expect("the new list");
+    let lines: Vec<&str> = lines.split_inclusive('\n').collect();
+    assert_eq!(lines[0], list[0].replace("f/1.report", "f/a.report"));
+    assert_eq!(lines[1], list[1].replace(&old.len().to_string(), &report.len().to_string()));
+    assert_eq!(lines[2], list[2]);
     std::fs::remove_dir_all(&folder).expect("the folder goes");
 }
 

@@ -19,7 +19,7 @@ use Rattle.feeder.specs.declared.Three.{Three}
 use Rattle.integers.specs.Lists.{csum, nsum}
 use Rattle.integers.specs.Pairs.{0c, _+c_, _-c_, _·*_, _·c_, abs, rndPair, scaled, square}
 use Rattle.integers.specs.declared.Pair.{Pair}
-use Rattle.report.specs.Report.{Reported, reportOf, reportedCurrents, reportedSource, reportedVoltages}
+use Rattle.report.specs.Report.{Reported, reportOf, reportedCurrents, reportedSource, reportedVoltages, withReported}
 
 -- "A load's rating is S for P, else rnd(S·(re² + im²)/w), at the reported V"
 unfoldable pub ratingOf : LoadKind → ℤ → Pair → Pair → Pair
@@ -34,7 +34,7 @@ rating v l = ratingOf (kindAt l (voltageOn l v)) (l .vn) (rated l) (voltageOn l 
 -- "A line's exact loss is rnd(sum over i, j of conj(I_i)·z_ij·I_j / 10,000,000); a transformer's the same with z_i alone; a regulator's 0"
 unfoldable pub exactLoss : Device → Three → Pair
 exactLoss (Line z) i = rndPair (csum (λ p. csum (λ j. (zOf z p j ·c at i j) ·* at i p) abc) abc) 10000000
-exactLoss (Regulator t) i = 0c
+exactLoss (Regulator x) i = 0c
 exactLoss (Transformer x) i = rndPair (csum (λ p. (at (x .z) p ·c at i p) ·* at i p) abc) 10000000
 
 -- "the ratings of all load rows plus the exact losses of all branches"
@@ -52,7 +52,7 @@ over f x = nsum (λ p. cond (has f p) (x p) 0) abc
 -- "line: 1 + |I|", "regulator: |V| + 2·tol + |I| on each of its phases", "transformer: 1, and |V| + 2·tol + 2·|I| on each of its phases"
 unfoldable pub branchAllowance : ℕ → Device → Phases → Three → Three → ℕ
 branchAllowance tol (Line z) f u i = 1 + over f (λ p. abs (at i p))
-branchAllowance tol (Regulator t) f u i = over f (λ p. abs (at u p) + 2 * tol + abs (at i p))
+branchAllowance tol (Regulator x) f u i = over f (λ p. abs (at u p) + 2 * tol + abs (at i p))
 branchAllowance tol (Transformer x) f u i = 1 + over f (λ p. abs (at u p) + 2 * tol + 2 * abs (at i p))
 
 -- "a branch's V is at its from-node, its I the reported one at m"
@@ -65,11 +65,12 @@ allowance f r =
 unfoldable pub difference : Feeder → Reported → Pair
 difference f r = reportedSource r -c accounted f r
 
--- of a feeder's text and a report's text: they are read as some feeder and some report, and for these the account holds
+-- of a feeder's text and a report's text: they are read as some feeder and some report, and for these the account holds. 02: "the power account is that of
+-- those taps", the reported ones
 pub record PowerAccount (s t : List ℕ) : Type 0 where
   pub feeder : Feeder
   pub report : Reported
   pub feeder-read : reading s ≡ good feeder
   pub report-read : reportOf feeder t ≡ good report
-  pub real : 2 * natAbs (difference feeder report .re) ≤ allowance feeder report
-  pub reactive : 2 * natAbs (difference feeder report .im) ≤ allowance feeder report
+  pub real : 2 * natAbs (difference (withReported feeder report) report .re) ≤ allowance (withReported feeder report) report
+  pub reactive : 2 * natAbs (difference (withReported feeder report) report .im) ≤ allowance (withReported feeder report) report

@@ -12,7 +12,7 @@ use Rattle.answers.specs.AnswerLaws.{same-good}
 use Rattle.answers.specs.Answers.{good}
 use Rattle.equations.specs.Equations.{actsAs, currentAt, loadCurrent, mix, rated, voltageOn, weight, zero3}
 use Rattle.equations.specs.LowVoltage.{acts-high, acts-low, asImpedance, motor}
-use Rattle.feeder.specs.Feeder.{Feeder, reading}
+use Rattle.feeder.specs.Feeder.{Feeder, noTaps, reading}
 use Rattle.feeder.specs.declared.Connection.the-variants.{Wye}
 use Rattle.feeder.specs.declared.Device.the-variants.{Line, Regulator, Transformer}
 use Rattle.feeder.specs.declared.Load.{Load}
@@ -24,16 +24,16 @@ use Rattle.integers.specs.Lists.{csum, nsum}
 use Rattle.integers.specs.Pairs.{0c, _+c_, _·*_, abs, rndPair, scaled, square}
 use Rattle.integers.specs.Rounding.{near, rnd}
 use Rattle.integers.specs.declared.Pair.{Pair}
-use Rattle.report.specs.Report.{Reported, reportOf}
+use Rattle.report.specs.Report.{Reported, reportOf, withReported}
 
 -- ---- the account is one of the very feeder and report that the texts are read as: real and reactive, twice the difference is at most the allowance
 pub of-read : (s t : List ℕ) (f : Feeder) (r : Reported) → reading s ≡ good f → reportOf f t ≡ good r → PowerAccount s t
-    → (2 * natAbs (difference f r .re) ≤ allowance f r) × (2 * natAbs (difference f r .im) ≤ allowance f r)
+    → (2 * natAbs (difference (withReported f r) r .re) ≤ allowance (withReported f r) r) × (2 * natAbs (difference (withReported f r) r .im) ≤ allowance (withReported f r) r)
 of-read s t f r h k a =
     let same-feeder : a .feeder ≡ f = same-good _ _ (sym (a .feeder-read) ∙ h) in
     let same-report : a .report ≡ r = same-good _ _ (sym (a .report-read) ∙ (ap (λ g. reportOf g t) same-feeder ∙ k)) in (
-      subst (λ g. 2 * natAbs (difference g r .re) ≤ allowance g r) same-feeder (subst (λ x. 2 * natAbs (difference (a .feeder) x .re) ≤ allowance (a .feeder) x) same-report (a .real)),
-      subst (λ g. 2 * natAbs (difference g r .im) ≤ allowance g r) same-feeder (subst (λ x. 2 * natAbs (difference (a .feeder) x .im) ≤ allowance (a .feeder) x) same-report (a .reactive)),
+      subst (λ g. 2 * natAbs (difference (withReported g r) r .re) ≤ allowance (withReported g r) r) same-feeder (subst (λ x. 2 * natAbs (difference (withReported (a .feeder) x) x .re) ≤ allowance (withReported (a .feeder) x) x) same-report (a .real)),
+      subst (λ g. 2 * natAbs (difference (withReported g r) r .im) ≤ allowance (withReported g r) r) same-feeder (subst (λ x. 2 * natAbs (difference (withReported (a .feeder) x) x .im) ≤ allowance (withReported (a .feeder) x) x) same-report (a .reactive)),
     )
 
 -- ---- the table of demand 3 by hand: a row on phases A and B, at V = 3 + 4j and 5j, with I = 1 - j and 2
@@ -55,7 +55,7 @@ unfolding branchAllowance over nsum abs
 by-hand-line = refl
 
 -- |V| + 2·tol + |I| on each phase: 7 + 20 + 2 and 5 + 20 + 2
-by-hand-regulator : branchAllowance 10 (Regulator (record { a = pos 0; b = pos 0; c = pos 0 })) on-a-and-b voltage current ≡ 56
+by-hand-regulator : branchAllowance 10 (Regulator (record { taps = noTaps; level = pos 0; band = pos 0; potential = pos 0; current = pos 0; z = 0c })) on-a-and-b voltage current ≡ 56
 unfolding branchAllowance over nsum abs
 by-hand-regulator = refl
 

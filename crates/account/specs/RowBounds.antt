@@ -23,9 +23,9 @@ use Rattle.feeder.specs.declared.Phase.{Phase}
 use Rattle.feeder.specs.declared.Phase.the-variants.{A, B, C}
 use Rattle.feeder.specs.declared.Phases.{Phases}
 use Rattle.feeder.specs.declared.Signs.{Signs}
-use Rattle.feeder.specs.declared.Taps.{Taps}
 use Rattle.feeder.specs.declared.Terminals.{Terminals}
 use Rattle.feeder.specs.declared.Terminals.the-variants.{AB, BC, CA, OnA, OnB, OnC}
+use Rattle.feeder.specs.declared.TapChanger.{TapChanger}
 use Rattle.feeder.specs.declared.Three.{Three}
 use Rattle.feeder.specs.declared.Windings.{Windings}
 use Rattle.integers.specs.Bools.{clash}
@@ -168,10 +168,10 @@ near-second : {c l x : ℤ} {e : ℕ} → c ≡ pos 0 → Near l x e → Near (c
 near-second {l = l} h k = rw (h, +ℤ-idl l) k
 
 -- ---- a branch
-divisors : (t : Taps) (f : Phases) → Sized (Regulator t) f → (p : Phase) → 0 < tapDivisor t p
-divisors t f g A = g .0
-divisors t f g B = g .1 .0
-divisors t f g C = g .1 .1
+divisors : (x : TapChanger) (f : Phases) → Sized (Regulator x) f → (p : Phase) → 0 < tapDivisor (x .taps) p
+divisors x f g A = g .0
+divisors x f g B = g .1 .0
+divisors x f g C = g .1 .1
 
 module _ (q : Part) (f : Phases) (u i : Three) (off : (p : Phase) → has f p ≡ false → at i p ≡ 0c) where
   -- what the row takes in at its from-node less what it gives out, u being the voltage there and i the current given out
@@ -209,17 +209,17 @@ module _ (q : Part) (f : Phases) (u i : Three) (off : (p : Phase) → has f p �
   unfolding lost dropOf exactLoss powerOf each sum
   transformer-lost x = drop-near q 10000000 (omega arith) (λ p. at (x .z) p ·c at i p) (at i) _ (part-sum q _ abc)
 
-  regulator-lost : (t : Taps) → lost (Regulator t) ≡ part q (exactLoss (Regulator t) i)
+  regulator-lost : (x : TapChanger) → lost (Regulator x) ≡ part q (exactLoss (Regulator x) i)
   unfolding lost dropOf exactLoss
-  regulator-lost t = sum-cong abc (λ p. rw (at-zero p) (power-zero-left q (at i p))) ∙ sum-zero abc ∙ sym (part-zero q)
+  regulator-lost x = sum-cong abc (λ p. rw (at-zero p) (power-zero-left q (at i p))) ∙ sum-zero abc ∙ sym (part-zero q)
     where
       part-zero : (q : Part) → part q 0c ≡ pos 0
       part-zero real = refl
       part-zero reactive = refl
 
-  regulator-between : (t : Taps) → ((p : Phase) → 0 < tapDivisor t p) → Near (between-ends (Regulator t)) (pos 0) (over f (λ p. abs (at u p) + abs (at i p)))
+  regulator-between : (x : TapChanger) → ((p : Phase) → 0 < tapDivisor (x .taps) p) → Near (between-ends (Regulator x)) (pos 0) (over f (λ p. abs (at u p) + abs (at i p)))
   unfolding between-ends takenOf throughOf over each sum
-  regulator-between t g = rw (sum-zero {X = Phase} abc) at (near-sums abc (λ p. masked-near (has f p) (near-difference (regulator-near q (tapDivisor t p) (g p) (at u p) (at i p)))))
+  regulator-between x g = rw (sum-zero {X = Phase} abc) at (near-sums abc (λ p. masked-near (has f p) (near-difference (regulator-near q (tapDivisor (x .taps) p) (g p) (at u p) (at i p)))))
     where
       masked-near : (c : Bool) {x : ℤ} {e : ℕ} → Near x (pos 0) e → Near (cond c x (pos 0)) (pos 0) (cond c e 0)
       masked-near true h = h
@@ -246,7 +246,7 @@ module _ (q : Part) (f : Phases) (u i : Three) (off : (p : Phase) → has f p �
   pub branch-row-near : (tol : ℕ) (v : Three) → ((p : Phase) → abs (at u p) ≤ abs (at v p) + 2 * tol) → (d : Device) → Sized d f → Near (given d) (part q (exactLoss d i)) (branchAllowance tol d f v i)
   unfolding branchAllowance
   branch-row-near tol v close (Line z) g = rw (given-is (Line z)) (near-mono (near-second (line-between z) (line-lost z)) (omega (arith, over-le f i off)))
-  branch-row-near tol v close (Regulator t) g = rw (given-is (Regulator t)) (near-mono (near-first (regulator-between t (divisors t f g)) (regulator-lost t))
+  branch-row-near tol v close (Regulator x) g = rw (given-is (Regulator x)) (near-mono (near-first (regulator-between x (divisors x f g)) (regulator-lost x))
       (over-mono f (λ p. abs (at u p) + abs (at i p)) _ (λ p. omega (arith, close p))))
   branch-row-near tol v close (Transformer x) g = rw (given-is (Transformer x)) (near-mono (near-both (transformer-between x (g .0) (g .1)) (transformer-lost x))
       (full-le f (λ p. abs (at u p)) (λ p. abs (at i p)) _ (g .1) (λ p. omega (arith, close p))))

@@ -1,11 +1,11 @@
--- Refusals (01): the number and the value of each, and what is either worked out or refused. Assumes nothing.
-use mathlib.Core.Bool.{Bool, true, false}
+-- Refusals (01, 02): the number and the value of each, and what is either worked out or refused. Assumes nothing.
+use mathlib.Core.Bool.{Bool, false, true}
 use mathlib.Core.Path.{_≡_}
 use Prim.Native.Nat.{ℕ}
 use Rattle.answers.specs.declared.Found.{Found}
 use Rattle.answers.specs.declared.Found.the-variants.{At, Nothing}
 use Rattle.answers.specs.declared.Refusal.{Refusal}
-use Rattle.answers.specs.declared.Refusal.the-variants.{TooLong, Layout, OutOfLimit, UnknownFrom, SecondTo, NotReached, PhaseAbsent, NotZero, ZeroVoltage, LoadBeyond, CurrentBeyond, VoltageBeyond, NotSettled, BufferShort, ReportLayout, NameDiffers, SourceDiffers, CurrentDiffers, VoltageOff, TotalDiffers}
+use Rattle.answers.specs.declared.Refusal.the-variants.{BufferShort, CurrentBeyond, CurrentDiffers, Layout, LoadBeyond, NameDiffers, NotReached, NotSettled, NotZero, OutOfLimit, PhaseAbsent, ReportLayout, SecondTo, SourceDiffers, TapDiffers, TapsMoving, TooLong, TotalDiffers, UnknownFrom, VoltageBeyond, VoltageOff, ZeroVoltage}
 
 -- the table's column "No."
 abbrev pub numberOf : Refusal → ℕ
@@ -22,6 +22,7 @@ numberOf (LoadBeyond n) = 31
 numberOf (CurrentBeyond n) = 32
 numberOf (VoltageBeyond n) = 33
 numberOf (NotSettled n) = 34
+numberOf (TapsMoving n) = 35
 numberOf (BufferShort n) = 40
 numberOf ReportLayout = 50
 numberOf (NameDiffers n) = 51
@@ -29,6 +30,7 @@ numberOf (SourceDiffers n) = 52
 numberOf (CurrentDiffers n) = 53
 numberOf (VoltageOff n) = 54
 numberOf TotalDiffers = 55
+numberOf (TapDiffers n) = 56
 
 -- the table's column "Returned, with the number"
 abbrev pub valueOf : Refusal → ℕ
@@ -45,6 +47,7 @@ valueOf (LoadBeyond n) = n
 valueOf (CurrentBeyond n) = n
 valueOf (VoltageBeyond n) = n
 valueOf (NotSettled n) = n
+valueOf (TapsMoving n) = n
 valueOf (BufferShort n) = n
 valueOf ReportLayout = 0
 valueOf (NameDiffers n) = n
@@ -52,6 +55,7 @@ valueOf (SourceDiffers n) = n
 valueOf (CurrentDiffers n) = n
 valueOf (VoltageOff n) = n
 valueOf TotalDiffers = 0
+valueOf (TapDiffers n) = n
 
 -- an X, or a refusal; one step after the other, the first refusal being the answer
 pub data Outcome (X : Type 0) : Type 0 where

@@ -1,4 +1,4 @@
-// What the calls answer where they do not give a report or a pass. specs/Answers.antt has document 01's number and value of each refusal.
+// What the calls answer where they do not give a report or a pass. specs/Answers.antt has the number and the value of each refusal by documents 01 and 02.
 ghost use mathlib.Core.Path.{_≡_};
 ghost use Rattle.answers.specs.Answers.{numberOf, valueOf};
 
@@ -8,7 +8,7 @@ pub enum Found {
     Nothing,
 }
 
-// One case for each row of document 01's table of refusals, with the value that is returned beside the number.
+// One case for each row of document 01's table of refusals, and 35 and 56 of document 02, with the value that is returned beside the number.
 pub enum Refusal {
     TooLong,
     Layout(usize),
@@ -23,6 +23,7 @@ pub enum Refusal {
     CurrentBeyond(usize),
     VoltageBeyond(usize),
     NotSettled(usize),
+    TapsMoving(usize),
     BufferShort(usize),
     ReportLayout,
     NameDiffers(usize),
@@ -30,6 +31,7 @@ pub enum Refusal {
     CurrentDiffers(usize),
     VoltageOff(usize),
     TotalDiffers,
+    TapDiffers(usize),
 }
 
 // The table's column "No.".
@@ -50,6 +52,7 @@ pub fn number_of(x: Refusal) -> usize
         Refusal::CurrentBeyond(_) => 32,
         Refusal::VoltageBeyond(_) => 33,
         Refusal::NotSettled(_) => 34,
+        Refusal::TapsMoving(_) => 35,
         Refusal::BufferShort(_) => 40,
         Refusal::ReportLayout => 50,
         Refusal::NameDiffers(_) => 51,
@@ -57,6 +60,7 @@ pub fn number_of(x: Refusal) -> usize
         Refusal::CurrentDiffers(_) => 53,
         Refusal::VoltageOff(_) => 54,
         Refusal::TotalDiffers => 55,
+        Refusal::TapDiffers(_) => 56,
     }
 }
 
@@ -78,6 +82,7 @@ pub fn value_of(x: Refusal) -> usize
         Refusal::CurrentBeyond(n) => n,
         Refusal::VoltageBeyond(n) => n,
         Refusal::NotSettled(n) => n,
+        Refusal::TapsMoving(n) => n,
         Refusal::BufferShort(n) => n,
         Refusal::ReportLayout => 0,
         Refusal::NameDiffers(n) => n,
@@ -85,5 +90,6 @@ pub fn value_of(x: Refusal) -> usize
         Refusal::CurrentDiffers(n) => n,
         Refusal::VoltageOff(n) => n,
         Refusal::TotalDiffers => 0,
+        Refusal::TapDiffers(n) => n,
     }
 }

@@ -21,6 +21,7 @@ use feeder::LineZ;
 use feeder::Load;
 use feeder::LoadKind;
 use feeder::Phases;
+use feeder::TapChanger;
 use feeder::Taps;
 use feeder::Terminals;
 use feeder::Three;
@@ -121,7 +122,7 @@ pub fn put_pair(pairs: &mut Pairs, k: usize, x: Pair)
 }
 
 // ---- branches
-fn is_on(z: i64) -> bool
+pub fn is_on(z: i64) -> bool
     ensures { λ r. ⌜ r ≡ isOn z ⌝ }
 {
     !whole::inside(z, 0)
@@ -204,7 +205,20 @@ fn regulator_of(n: &[i64; 17]) -> Device
     let a = n[5];
     let b = n[6];
     let c = n[7];
-    Device::Regulator(Taps { a, b, c })
+    let taps = Taps { a, b, c };
+    let level = n[8];
+    let band = n[9];
+    let potential = n[10];
+    let current = n[11];
+    let z = pair_from(n, 8);
+    Device::Regulator(TapChanger {
+        taps,
+        level,
+        band,
+        potential,
+        current,
+        z,
+    })
 }
 
 fn transformer_of(connection: Connection, n: &[i64; 17]) -> Device

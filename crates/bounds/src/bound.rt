@@ -17,11 +17,15 @@
 // slope times e, and what the two currents, as an impedance and at constant power, differ by at the voltage that is not so low.
 // Where these sweeps settle, no report that follows documents 01 and 02 is further off: what a report is off by is at most one more sweep of itself. Where they
 // do not, as near a collapse of the voltage, there is no bound.
+use arrays::Branches;
+use arrays::Loads;
+use arrays::Places;
+use arrays::Settings;
 use arrays::Threes;
+use arrays::load_at;
 use arrays::three_at;
 use feeder::Load;
 use feeder::LoadKind;
-use feeder::Network;
 use feeder::Terminals;
 use feeder::Three;
 use floats::component::Quantity;
@@ -123,7 +127,7 @@ fn load_bounds(l: Load, solved: Phasors, reported: Three, bounds: Phasors, moved
 
 // The sum over the loads at each node.
 fn drawn_bounds(
-    loads: [Load; 300],
+    loads: &Loads,
     rows: usize,
     solved: &PhasorRows,
     reported: &Threes,
@@ -136,7 +140,7 @@ fn drawn_bounds(
     *own = none;
     let mut row = 0;
     while row < count {
-        let l = loads[row];
+        let l = load_at(loads, row);
         row += 1;
         let node = place(l.node);
         let v = phasors_at(solved, node);
@@ -149,19 +153,19 @@ fn drawn_bounds(
 // The bounds on the voltages at each node in cV and on the currents of each branch in mA, from the voltages in floats and the reported ones, if 1,000 sweeps are
 // enough. They stand in re, and are 0 before the first sweep. The source is not off.
 pub fn bounds_on(
-    g: Network,
+    settings: Settings,
+    branches: &Branches,
+    loads: &Loads,
+    order: &Places,
     solved: &PhasorRows,
     reported: &Threes,
     voltages: &mut PhasorRows,
     currents: &mut PhasorRows,
 ) -> Bounds {
-    let branches = g.branches;
-    let rows = g.rows;
-    let order = g.order;
-    let loads = g.loads;
-    let count = g.count;
+    let rows = settings.rows;
+    let count = settings.count;
     let none = no_phasors();
-    let moved = root(2.0) * std::num::nearest_u64_to_f64(g.tol);
+    let moved = root(2.0) * std::num::nearest_u64_to_f64(settings.tol);
     let no_rows = [[0.0f64; 6]; 201];
     *voltages = no_rows;
     let mut sweeps: usize = 0;
@@ -170,7 +174,7 @@ pub fn bounds_on(
         if sweep(
             branches,
             rows,
-            &order,
+            order,
             Quantity::Bound,
             none,
             currents,

@@ -3,7 +3,7 @@ use mathlib.Core.List.{List}
 use Prim.Native.Nat.{ℕ}
 use Rattle.answer_text.specs.AnswerText.{textTold}
 use Rattle.answers.specs.Answers.{Done}
-use Rattle.report_check.specs.Check.{checked}
+use Rattle.verdicts.specs.Check.{checked}
 use Rattle.text.specs.Text.{bytes}
 
 abbrev pub passLine : Done → List ℕ

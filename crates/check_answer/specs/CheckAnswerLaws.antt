@@ -10,9 +10,9 @@ use Rattle.answer_text.specs.AnswerTextLaws.{refused-50, whole-room}
 use Rattle.answers.specs.Answers.{Done, Outcome, good, numberOf, refused, valueOf}
 use Rattle.answers.specs.declared.Refusal.{Refusal}
 use Rattle.check_answer.specs.CheckAnswer.{checkText, passLine}
-use Rattle.report_check.specs.Check.{checkOf, checked, verdictOf}
-use Rattle.report_check.specs.Demand.{demand3}
-use Rattle.report_check.specs.declared.Verdict.the-variants.{Fail, Pass}
+use Rattle.verdicts.specs.Check.{checkOf, checked, verdictOf}
+use Rattle.verdicts.specs.Demand.{demand3}
+use Rattle.verdicts.specs.declared.Verdict.the-variants.{Fail, Pass}
 use Rattle.text.specs.Text.{bytes}
 
 passed-text : (o : Outcome Done) → verdictOf o ≡ Pass → textTold passLine o ≡ bytes "pass\n"

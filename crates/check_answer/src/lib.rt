@@ -6,8 +6,8 @@ ghost use Rattle.check_answer.specs.CheckAnswer.{checkText};
 ghost use Rattle.text.specs.Text.{bytes};
 use answer_text::put_refusal;
 use answer_text::put_text;
-use report_check::Verdict;
 use report_check::check;
+use verdicts::Verdict;
 
 // "pass", or the line "refused NUMBER VALUE", at the start of `out`; where `out` has no room for it, nothing. Answers how many bytes were written. For all
 // bytes and all lengths; where the text is "pass", the power account holds.

@@ -1,12 +1,12 @@
 // The tests of a report against its feeder that work no voltage, over their arrays: 51 names, 52 source voltages and absent phases,
-// 53 currents, 55 losses and totals. specs/Differences.antt has each test, specs/Compare.antt the same over arrays.
+// 53 currents, 55 losses and totals, 56 taps. specs/Differences.antt has each test, specs/Compare.antt the same over arrays.
 ghost use mathlib.Core.Path.{_≡_};
 ghost use mathlib.Core.Bool.{cond, true};
 ghost use mathlib.Core.List.{List, _∷_, map};
 ghost use Prim.Native.Nat.{ℕ, _+_, _<_, _≤_};
 ghost use Rattle.integers.specs.Lists.{all, count};
 ghost use Rattle.integers.specs.Pairs.{0c, same};
-ghost use Rattle.feeder.specs.Feeder.{Feeder, rowCount, rowsOf};
+ghost use Rattle.feeder.specs.Feeder.{Feeder, orElse, rowCount, rowsOf};
 ghost use Rattle.feeder.specs.Network.{Held, kept};
 ghost use Rattle.feeder.specs.declared.Network.{Network};
 ghost use Rattle.feeder.specs.declared.Three.{Three};
@@ -17,7 +17,8 @@ ghost use Rattle.report.specs.Report.{Reported};
 ghost use Rattle.report_reader.specs.Read.{ReportHeld, ReportRead};
 ghost use Rattle.report_tables.specs.TablesRead.{pairFrom};
 ghost use Rattle.compare.specs.Differences.{currentDiffers, nameDiffers, same3, sourceDiffers, totalDiffers};
-ghost use Rattle.compare.specs.Compare.{absentDiffers, absentZero, lossesSame, namesDiffer, nodeNameDiffers, nodeScan, rowScan, threeDiffers};
+ghost use Rattle.compare.specs.Compare.{absentDiffers, absentZero, lossesSame, namesDiffer, nodeNameDiffers, nodeScan, rowScan, tapNameDiffers, tapScan, threeDiffers};
+use crate::tap_rows::first_tap_name;
 use answers::Found;
 use arrays::Branches;
 use arrays::Names;
@@ -31,6 +32,8 @@ use devices::threes::all_of;
 use feeder::Phases;
 use feeder::Three;
 use integers::Pair;
+
+pub mod tap_rows;
 
 // ---- equal pairs
 fn same_whole(a: i64, b: i64) -> bool
@@ -99,6 +102,26 @@ fn first_branch_name(
     Found::Nothing
 }
 
+// The first branch row, or else the first regulator's row, with another name.
+fn first_row_name(
+    nodes: &Names,
+    branches: &Branches,
+    rows: usize,
+    froms: &Names,
+    tos: &Names,
+    tap_names: &Names,
+) -> Found
+    requires { ⌜ rows ≤ 200 ⌝ }
+    requires { ⌜ ((k : ℕ) → k < rows + 1 → parentIn (branchesOf (now branches)) k < 201) ⌝ }
+    ensures { λ r. ⌜ r ≡ orElse (rowScan (namesDiffer (now (nodes .entry)) (branchesOf (now (branches .entry))) (now (froms .entry)) (now (tos .entry))) rows) (tapScan (tapNameDiffers (now (nodes .entry)) (now («tap_names» .entry))) (branchesOf (now (branches .entry))) rows 1 0) ⌝ }
+{
+    let found = first_branch_name(nodes, branches, rows, froms, tos);
+    match found {
+        Found::At(line) => Found::At(line),
+        Found::Nothing => first_tap_name(nodes, branches, rows, tap_names),
+    }
+}
+
 // 51: "names and row order are the feeder's".
 pub fn first_name_differs(
     nodes: &Names,
@@ -107,15 +130,16 @@ pub fn first_name_differs(
     names: &Names,
     froms: &Names,
     tos: &Names,
+    tap_names: &Names,
 ) -> Found
     requires { ⌜ rows ≤ 200 ⌝ }
     requires { ⌜ ((k : ℕ) → k < rows + 1 → parentIn (branchesOf (now branches)) k < 201) ⌝ }
-    ensures { λ r. ⌜ ((f : Feeder) (g : Network) (x : Reported) (t : ReportRead) → Held f g → ReportHeld (rowCount f) x t → rows ≡ g .rows → now (nodes .entry) ≡ g .nodes → branchesOf (now (branches .entry)) ≡ g .branches → now (names .entry) ≡ t .«node_names» → now (froms .entry) ≡ t .«from_names» → now (tos .entry) ≡ t .«to_names» → r ≡ nameDiffers f x) ⌝ }
+    ensures { λ r. ⌜ ((f : Feeder) (g : Network) (x : Reported) (t : ReportRead) → Held f g → ReportHeld (rowCount f) x t → rows ≡ g .rows → now (nodes .entry) ≡ g .nodes → branchesOf (now (branches .entry)) ≡ g .branches → now (names .entry) ≡ t .«node_names» → now (froms .entry) ≡ t .«from_names» → now (tos .entry) ≡ t .«to_names» → now («tap_names» .entry) ≡ t .«tap_names» → r ≡ nameDiffers f x) ⌝ }
 {
     let found = first_node_name(nodes, rows, names);
     match found {
         Found::At(line) => Found::At(line),
-        Found::Nothing => first_branch_name(nodes, branches, rows, froms, tos),
+        Found::Nothing => first_row_name(nodes, branches, rows, froms, tos, tap_names),
     }
 }
 

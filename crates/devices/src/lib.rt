@@ -1,14 +1,14 @@
 // Lines, regulators and transformers: what passes through, the drop and what is taken; both ends of a branch, and its loss.
 ghost use mathlib.Core.Path.{_≡_};
 ghost use Prim.Native.Nat.{_<_, _≤_};
-ghost use lib.IntN.{pos, natAbs, _-ℤ_};
-ghost use Rattle.integers.specs.Pairs.{_·c_, scaled, rndPair};
+ghost use lib.IntN.{_-ℤ_, natAbs, pos};
+ghost use Rattle.integers.specs.Pairs.{_·c_, rndPair, scaled};
 ghost use Rattle.integers.specs.PairLaws.{Within};
 ghost use Rattle.integers.specs.Lists.{csum};
 ghost use Rattle.feeder.specs.Feeder.{abc};
-ghost use Rattle.equations.specs.Equations.{at, each, mix, rowAt, signTable, dropOf, throughOf, takenOf, farVoltage, nearCurrent, power};
-ghost use Rattle.equations.specs.Sizes.{Within3, MatrixOk};
-ghost use Rattle.equations.specs.Limits.{LineOk, TapsOk, WindingsOk, DeviceOk};
+ghost use Rattle.equations.specs.Equations.{at, dropOf, each, farVoltage, mix, nearCurrent, power, rowAt, signTable, takenOf, throughOf};
+ghost use Rattle.equations.specs.Sizes.{MatrixOk, Within3};
+ghost use Rattle.equations.specs.Limits.{ChangerOk, DeviceOk, LineOk, WindingsOk};
 use equations::Matrix;
 use equations::SignTable;
 use feeder::Branch;
@@ -16,7 +16,7 @@ use feeder::Connection;
 use feeder::Device;
 use feeder::LineZ;
 use feeder::Signs;
-use feeder::Taps;
+use feeder::TapChanger;
 use feeder::Three;
 use feeder::Windings;
 use integers::Pair;
@@ -87,11 +87,12 @@ fn regulate(tap: i64, x: Pair) -> Pair
     ratio(160, d, x)
 }
 
-fn regulated(t: Taps, x: Three) -> Three
-    requires { ⌜ TapsOk t ⌝ }
+fn regulated(d: TapChanger, x: Three) -> Three
+    requires { ⌜ ChangerOk d ⌝ }
     requires { ⌜ Within3 2100000 x ⌝ }
-    ensures { λ r. ⌜ r ≡ throughOf (Device.Regulator t) x ⌝ }
+    ensures { λ r. ⌜ r ≡ throughOf (Device.Regulator d) x ⌝ }
 {
+    let t = d.taps;
     let a = regulate(t.a, x.a);
     let b = regulate(t.b, x.b);
     let c = regulate(t.c, x.c);

@@ -1,15 +1,15 @@
 -- Equations (01, 02). V and I are lists by node number: V of node k, I of the branch that feeds it; at 0 stand the source's voltage and all current
 -- taken there. Assumes nothing.
-use mathlib.Core.Bool.{Bool, true, false, cond, not, _&&_}
+use mathlib.Core.Bool.{Bool, _&&_, cond, false, not, true}
 use mathlib.Core.List.{List, [], _∷_}
-use Prim.Native.Nat.{ℕ, zero, suc, _*_}
+use Prim.Native.Nat.{_*_, suc, zero, ℕ}
 use lib.Dec.{eqb, ltb}
-use lib.IntN.{ℤ, pos, negsuc, natAbs, _-ℤ_}
+use lib.IntN.{_-ℤ_, natAbs, negsuc, pos, ℤ}
 use lib.ListN.{getD}
 use Rattle.integers.specs.declared.Pair.{Pair}
 use Rattle.integers.specs.Root.{root}
-use Rattle.integers.specs.Pairs.{0c, _+c_, _-c_, _·c_, _·*_, scaled, rndPair, square, within}
-use Rattle.integers.specs.Lists.{csum, any, tab}
+use Rattle.integers.specs.Pairs.{0c, _+c_, _-c_, _·*_, _·c_, rndPair, scaled, square, within}
+use Rattle.integers.specs.Lists.{any, csum, tab}
 use Rattle.feeder.specs.declared.Three.{Three}
 use Rattle.feeder.specs.declared.Phase.{Phase}
 use Rattle.feeder.specs.declared.Phase.the-variants.{A, B, C}
@@ -17,15 +17,15 @@ use Rattle.feeder.specs.declared.Phases.{Phases}
 use Rattle.feeder.specs.declared.LineZ.{LineZ}
 use Rattle.feeder.specs.declared.Taps.{Taps}
 use Rattle.feeder.specs.declared.Connection.{Connection}
-use Rattle.feeder.specs.declared.Connection.the-variants.{Wye, Delta}
+use Rattle.feeder.specs.declared.Connection.the-variants.{Delta, Wye}
 use Rattle.feeder.specs.declared.Device.{Device}
 use Rattle.feeder.specs.declared.Device.the-variants.{Line, Regulator, Transformer}
 use Rattle.feeder.specs.declared.Branch.{Branch}
 use Rattle.feeder.specs.declared.LoadKind.{LoadKind}
-use Rattle.feeder.specs.declared.LoadKind.the-variants.{Power, Current, Impedance}
+use Rattle.feeder.specs.declared.LoadKind.the-variants.{Current, Impedance, Power}
 use Rattle.feeder.specs.declared.Load.{Load}
 use Rattle.feeder.specs.declared.Signs.{Signs}
-use Rattle.feeder.specs.Feeder.{Feeder, has, abc, branchAt, parent, phaseSigns, rowCount, rowsOf, signs}
+use Rattle.feeder.specs.Feeder.{Feeder, abc, branchAt, has, parent, phaseSigns, rowCount, rowsOf, signs}
 use Rattle.equations.specs.declared.Matrix.{Matrix}
 use Rattle.equations.specs.declared.SignTable.{SignTable}
 
@@ -134,19 +134,19 @@ tapDivisor t C = natAbs (pos 160 -ℤ t .c)
 -- "L: D_i = rnd(sum over j of z_ij·I_j / 10,000,000)", "R: D = 0", "Y, D: D_i = rnd(z_i·I_i / 10,000,000)"
 unfoldable pub dropOf : Device → Three → Three
 dropOf (Line z) i = each (λ p. rndPair (csum (λ j. zOf z p j ·c at i j) abc) 10000000)
-dropOf (Regulator t) i = zero3
+dropOf (Regulator x) i = zero3
 dropOf (Transformer x) i = each (λ p. rndPair (at (x .z) p ·c at i p) 10000000)
 
 -- "L: V_m = V_n − D", "R: V_m = rnd(160·V_n/(160 − tap))", "Y, D: V_m = rnd(M·(A·V_n)/N) − D"
 unfoldable pub throughOf : Device → Three → Three
 throughOf (Line z) u = u
-throughOf (Regulator t) u = each (λ p. rndPair (scaled (pos 160) (at u p)) (tapDivisor t p))
+throughOf (Regulator x) u = each (λ p. rndPair (scaled (pos 160) (at u p)) (tapDivisor (x .taps) p))
 throughOf (Transformer x) u = each (λ p. rndPair (scaled (x .m) (mix (rowAt (signTable (x .connection) .voltage) p) u)) (natAbs (x .n)))
 
 -- "L: J = I", "R: J = rnd(160·I/(160 − tap))", "Y, D: J = rnd(M·(d·I)/N)"
 unfoldable pub takenOf : Device → Three → Three
 takenOf (Line z) i = i
-takenOf (Regulator t) i = each (λ p. rndPair (scaled (pos 160) (at i p)) (tapDivisor t p))
+takenOf (Regulator x) i = each (λ p. rndPair (scaled (pos 160) (at i p)) (tapDivisor (x .taps) p))
 takenOf (Transformer x) i = each (λ p. rndPair (scaled (x .m) (mix (rowAt (signTable (x .connection) .current) p) i)) (natAbs (x .n)))
 
 -- V_m from V_n and I, and J from I

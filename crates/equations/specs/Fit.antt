@@ -1,7 +1,7 @@
 -- What 11 and 20 to 23 give of a feeder that is read, as the code needs it. Assumes nothing.
 use mathlib.Core.Bool.{Bool, cond, false, true}
 use mathlib.Core.List.{List, [], _∷_}
-use mathlib.Core.Path.{_≡_, subst}
+use mathlib.Core.Path.{_∙_, _≡_, subst, sym}
 use Prim.Native.Nat.{_+_, _<_, _≤_, suc, zero, ℕ}
 use native.Mathlib.Omega.{arith}
 use lib.Dec.{T, ltb, ltb→lt}
@@ -13,19 +13,26 @@ use Rattle.answers.specs.Answers.{good}
 use Rattle.equations.specs.Equations.{at}
 use Rattle.equations.specs.Limits.{Counted, DeviceOk, LoadOk, WindingsOk, between-counted, counted-more}
 use Rattle.equations.specs.Sizes.{Within3}
-use Rattle.feeder.specs.Feeder.{Feeder, above, between, branchAt, branchIn, columnOf, delta, deviceOf, feederOf, inLimit, loadIn, loadOf, nodesOf, outOfLimit, parent, reading, rowCount, sourceIn, threeAt, vnMost}
+use Rattle.feeder.specs.Feeder.{Feeder, above, between, branchAt, branchIn, columnOf, delta, deviceOf, feederOf, inLimit, loadIn, loadOf, nodesOf, outOfLimit, parent, reading, rowCount, sourceIn, tapAt, tapped, tapsOn, threeAt, vnMost}
 use Rattle.feeder.specs.FeederLaws.{Sound, branch-is, node-reached, parent-known, row-count, rowOf, sound}
-use Rattle.feeder.specs.RowFacts.{branch-in, column-in, few-branches, few-loads, load-facts, load-in, load-node}
+use Rattle.feeder.specs.RowFacts.{Formed, branch-in, column-in, few-branches, few-loads, load-facts, load-in, load-node}
 use Rattle.feeder.specs.RowLaws.{held, or-none}
+use Rattle.feeder.specs.TapLaws.{Retapped, TapsIn, device-is, parent-same}
 use Rattle.feeder.specs.declared.BranchRow.{BranchRow}
 use Rattle.feeder.specs.declared.Connection.{Connection}
 use Rattle.feeder.specs.declared.Connection.the-variants.{Delta, Wye}
+use Rattle.feeder.specs.declared.Device.{Device}
+use Rattle.feeder.specs.declared.Device.the-variants.{Line, Regulator, Transformer}
 use Rattle.feeder.specs.declared.Kind.{Kind}
 use Rattle.feeder.specs.declared.Kind.the-variants.{D, L, R, Y}
+use Rattle.feeder.specs.declared.Load.{Load}
 use Rattle.feeder.specs.declared.LoadRow.{LoadRow}
+use Rattle.feeder.specs.declared.Phase.{Phase}
+use Rattle.feeder.specs.declared.Phase.the-variants.{A, B, C}
+use Rattle.feeder.specs.declared.Taps.{Taps}
 use Rattle.integers.specs.Bools.{both}
 use Rattle.integers.specs.ListLaws.{all-image, all-map, all-map2, at-all}
-use Rattle.integers.specs.Lists.{all, All}
+use Rattle.integers.specs.Lists.{All, all}
 use Rattle.integers.specs.PairLaws.{Within}
 use Rattle.integers.specs.Pairs.{inside}
 use Rattle.integers.specs.Whole.{abs-parts, leZ-true, neg-neg, one-part, pos-neg}
@@ -60,7 +67,7 @@ impedance-in : (r x : ℤ) → between (negℤ (pos 100000000)) (pos 100000000) 
 impedance-in r x p q = record { re = in-size 100000000 r p; im = in-size 100000000 x q }
 
 module _ (k : Kind) (p : List ℤ) (e : branchIn k p ≡ true) where
-  column : (j : ℕ) → T (ltb j 12) → inLimit (columnOf k (1 + j)) (nth p (1 + j)) ≡ true
+  column : (j : ℕ) → T (ltb j 12) → inLimit (columnOf k p (1 + j)) (nth p (1 + j)) ≡ true
   column j t = column-in k p e j (ltb→lt j 12 t)
 
 abbrev Ohms : ℤ → Type 0
@@ -85,7 +92,16 @@ device-ok L p e = record {
   bc = impedance-in (nth p 9) (nth p 10) (column L p e 8 tt) (column L p e 9 tt);
   cc = impedance-in (nth p 11) (nth p 12) (column L p e 10 tt) (column L p e 11 tt);
 }
-device-ok R p e = record { a = in-size 16 (nth p 1) (column R p e 0 tt); b = in-size 16 (nth p 2) (column R p e 1 tt); c = in-size 16 (nth p 3) (column R p e 2 tt) }
+device-ok R p e = record {
+  taps = record { a = in-size 16 (nth p 1) (column R p e 0 tt); b = in-size 16 (nth p 2) (column R p e 1 tt); c = in-size 16 (nth p 3) (column R p e 2 tt) };
+  level = counted-nat 0 20000 (nth p 4) (column R p e 3 tt) .1;
+  relay = λ n. record {
+    band = counted-nat 0 20000 (nth p 5) (rw n at (column R p e 4 tt)) .1;
+    potential = between-counted 10000 (nth p 6) (rw n at (column R p e 5 tt));
+    current = between-counted 10000 (nth p 7) (rw n at (column R p e 6 tt));
+    z = impedance-in (nth p 8) (nth p 9) (rw n at (column R p e 7 tt)) (rw n at (column R p e 8 tt));
+  };
+}
 device-ok Y p e = windings Wye p (column Y p e 0 tt) (column Y p e 1 tt) (column Y p e 2 tt) (column Y p e 3 tt) (column Y p e 4 tt) (column Y p e 5 tt) (column Y p e 6 tt) (column Y p e 7 tt)
 device-ok D p e = windings Delta p (column D p e 0 tt) (column D p e 1 tt) (column D p e 2 tt) (column D p e 3 tt) (column D p e 4 tt) (column D p e 5 tt) (column D p e 6 tt) (column D p e 7 tt)
 
@@ -170,3 +186,26 @@ fit s f e =
       parents = parent-known s f w;
       reached = node-reached s f w;
     }
+
+-- ---- with other taps within ±16 a feeder keeps its limits
+device-tapped : (t : Taps) (d : Device) → ((p : Phase) → natAbs (tapAt t p) ≤ 16) → DeviceOk d → DeviceOk (tapped t d)
+device-tapped t (Line z) k h = h
+device-tapped t (Regulator x) k h = record { taps = record { a = k A; b = k B; c = k C }; level = h .level; relay = λ n. let r = h .relay n in record { band = r .band; potential = r .potential; current = r .current; z = r .z } }
+device-tapped t (Transformer x) k h = h
+
+pub retapped-limits : (f g : Feeder) → Retapped f g → ((k : ℕ) → k < rowCount f → (p : Phase) → natAbs (tapAt (tapsOn (branchAt g (suc k) .device)) p) ≤ 16) → Fit f → Fit g
+retapped-limits f g h t m = record {
+  few-rows = rw (h .rows) (m .few-rows);
+  few-loads = subst (λ (l : List Load). length l ≤ 300) (sym (h .loads)) (m .few-loads);
+  source = subst (Within3 2000000) (sym (h .source)) (m .source);
+  tol = subst (λ (n : ℕ). n ≤ 1000) (sym (h .tol)) (m .tol);
+  some-sweeps = subst (λ (n : ℕ). 1 ≤ n) (sym (h .limit)) (m .some-sweeps);
+  few-sweeps = subst (λ (n : ℕ). n ≤ 100) (sym (h .limit)) (m .few-sweeps);
+  devices = λ k q. let n : k < rowCount f = rw (h .rows) at q in rw (device-is h (suc k)) (device-tapped (tapsOn (branchAt g (suc k) .device)) (branchAt f (suc k) .device) (t k n) (m .devices k n));
+  loads = rw (h .rows) (subst (λ (l : List Load). All (λ y. LoadOk y × (y .node < suc (rowCount f))) l) (sym (h .loads)) (m .loads));
+  parents = λ k q. let n : k < suc (rowCount f) = rw (h .rows) at q in rw (parent-same h k, h .rows) (m .parents k n);
+  reached = λ k q. let n : k < suc (rowCount f) = rw (h .rows) at q in ((λ i. above (λ j. parent-same h j i) (h .rows i) k) ∙ m .reached k n);
+}
+
+pub retapped-fit : (f g : Feeder) → Retapped f g → ((k : ℕ) → k < rowCount f → TapsIn (branchAt f (suc k) .phases) (tapsOn (branchAt g (suc k) .device))) → Formed g → Fit f → Fit g
+retapped-fit f g h t w m = retapped-limits f g h (λ k q. t k q .small) m

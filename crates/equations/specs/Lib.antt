@@ -1,5 +1,6 @@
 -- Definitions
 pub mod Equations
+pub mod Taps
 -- Laws
 pub mod ThreeLaws
 pub mod Weight
@@ -12,3 +13,4 @@ pub mod Downward
 pub mod Upward
 pub mod Meets
 pub mod Absent
+pub mod TapMoves

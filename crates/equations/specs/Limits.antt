@@ -1,5 +1,5 @@
--- What document 01's limits (11) give of a row, as the code needs it, and how large the equations' values are then. Assumes nothing.
-use mathlib.Core.Bool.{true}
+-- What the limits of documents 01 and 02 (11) give of a row, as the code needs it, and how large the equations' values are then. Assumes nothing.
+use mathlib.Core.Bool.{false, true}
 use mathlib.Core.Path.{_≡_, refl}
 use Prim.Native.Nat.{_*_, _<_, _≤_, ℕ}
 use native.Mathlib.Nat.{mul-le-mul}
@@ -10,6 +10,7 @@ use lib.Signed.{_≤ℤ_, leZ, leZ-yes}
 use Rattle.equations.specs.Equations.{at, dropOf, farVoltage, mix, nearCurrent, power, rated, takenOf, tapDivisor, throughOf, weight, zOf}
 use Rattle.equations.specs.Sizes.{SignsOk, Within3, mix-phase-within, mix-within, power-within, row-ok, table-ok, within-csum, within3-at, within3-each, within3-masked, within3-minus, within3-more, within3-zero}
 use Rattle.feeder.specs.Feeder.{between, phaseSigns}
+use Rattle.equations.specs.Taps.{relayVoltage}
 use Rattle.feeder.specs.declared.Branch.{Branch}
 use Rattle.feeder.specs.declared.Device.{Device}
 use Rattle.feeder.specs.declared.Device.the-variants.{Line, Regulator, Transformer}
@@ -20,13 +21,14 @@ use Rattle.feeder.specs.declared.LoadKind.the-variants.{Current, Impedance, Pow
 use Rattle.feeder.specs.declared.Phase.{Phase}
 use Rattle.feeder.specs.declared.Phase.the-variants.{A, B, C}
 use Rattle.feeder.specs.declared.Signs.{Signs}
+use Rattle.feeder.specs.declared.TapChanger.{TapChanger}
 use Rattle.feeder.specs.declared.Taps.{Taps}
 use Rattle.feeder.specs.declared.Terminals.{Terminals}
 use Rattle.feeder.specs.declared.Three.{Three}
 use Rattle.feeder.specs.declared.Windings.{Windings}
 use Rattle.integers.specs.Bools.{both, true-T}
-use Rattle.integers.specs.PairLaws.{Within, square-bound, within-div, within-more, within-mul, within-mul-conj, within-rnd, within-scaled}
-use Rattle.integers.specs.Pairs.{_·*_, _·c_, rndPair, scaled, square}
+use Rattle.integers.specs.PairLaws.{Within, square-bound, within-div, within-le, within-more, within-mul, within-mul-conj, within-rnd, within-scaled, within-sub}
+use Rattle.integers.specs.Pairs.{_-c_, _·*_, _·c_, inside, rndPair, scaled, square}
 use Rattle.integers.specs.Root.{root}
 use Rattle.integers.specs.RootLaws.{root-bound}
 use Rattle.integers.specs.Whole.{abs-parts, le-parts, one-part, parts, parts-le}
@@ -69,6 +71,18 @@ pub record TapsOk (t : Taps) : Type 0 where
   pub b : natAbs (t .b) ≤ 16
   pub c : natAbs (t .c) ≤ 16
 
+-- a relay that sets its taps
+pub record RelayOk (x : TapChanger) : Type 0 where
+  pub band : natAbs (x .band) ≤ 20000
+  pub potential : Counted 10000 (x .potential)
+  pub current : Counted 10000 (x .current)
+  pub z : Within 100000000 (x .z)
+
+pub record ChangerOk (x : TapChanger) : Type 0 where
+  pub taps : TapsOk (x .taps)
+  pub level : natAbs (x .level) ≤ 20000
+  pub relay : inside 0 (x .level) ≡ false → RelayOk x
+
 pub record WindingsOk (x : Windings) : Type 0 where
   pub n : Counted 1000000 (x .n)
   pub m : Counted 1000000 (x .m)
@@ -76,7 +90,7 @@ pub record WindingsOk (x : Windings) : Type 0 where
 
 abbrev pub DeviceOk : Device → Type 0
 DeviceOk (Line z) = LineOk z
-DeviceOk (Regulator t) = TapsOk t
+DeviceOk (Regulator x) = ChangerOk x
 DeviceOk (Transformer x) = WindingsOk x
 
 -- vn is within the limit of a load between two phases
@@ -125,7 +139,7 @@ pub drop-within : (d : Device) {i : Three} → DeviceOk d → Within3 2000000 i 
 unfolding dropOf
 drop-within (Line z) {i} h k =
     within3-each (λ p. within-div (lit< tt) (within-csum (λ j. zOf z p j ·c at i j) (λ j. within-mul (z-within h p j) (within3-at k j))))
-drop-within (Regulator t) h k = within3-zero
+drop-within (Regulator x) h k = within3-zero
 drop-within (Transformer x) h k =
     within3-each (λ p. within-div (lit< tt) (within-more (within-mul (within3-at (h .z) p) (within3-at k p)) tt))
 
@@ -142,13 +156,13 @@ turned-within {x = x} h o k = within-rnd (counted-some (h .n)) (within-scaled (x
 pub through-within : (d : Device) {u : Three} → DeviceOk d → Within3 2100000 u → Within3 6300000000000 (throughOf d u)
 unfolding throughOf
 through-within (Line z) h k = within3-more k tt
-through-within (Regulator t) h k = within3-each (λ p. within-more (regulated-within h k p) tt)
+through-within (Regulator x) h k = within3-each (λ p. within-more (regulated-within (h .taps) k p) tt)
 through-within (Transformer x) h k = within3-each (λ p. turned-within h (row-ok (table-ok (x .connection) .0) p) k)
 
 pub taken-within : (d : Device) {i : Three} → DeviceOk d → Within3 2000000 i → Within3 6000000000000 (takenOf d i)
 unfolding takenOf
 taken-within (Line z) h k = within3-more k tt
-taken-within (Regulator t) h k = within3-each (λ p. within-more (regulated-within h k p) tt)
+taken-within (Regulator x) h k = within3-each (λ p. within-more (regulated-within (h .taps) k p) tt)
 taken-within (Transformer x) h k = within3-each (λ p. turned-within h (row-ok (table-ok (x .connection) .1) p) k)
 
 -- V_m and J before they are tested
@@ -160,6 +174,17 @@ far-within b h k l =
 pub near-within : (b : Branch) {i : Three} → DeviceOk (b .device) → Within3 2000000 i → Within3 6000000000000 (nearCurrent b i)
 unfolding nearCurrent
 near-within b h k = within3-masked (b .phases) (taken-within (b .device) h k)
+
+-- ---- the relay: p6 and p7 divide by at least 1
+pub relay-within : {x : TapChanger} {u i : Pair} → RelayOk x → Within 2000000 u → Within 2000000 i → Within 42000000 (relayVoltage x u i)
+unfolding relayVoltage
+relay-within {x} {u} {i} h k l =
+    let some : 0 < natAbs (x .current) = counted-some (h .current) in
+    within-more (within-sub (within-rnd (counted-some (h .potential)) k)
+    (within-div {m = 40000000} {d = natAbs (x .current) * 10000000} (omega arith) (within-le (omega arith) (within-mul (h .z) l)))) tt
+
+pub relay-square : {x : TapChanger} {u i : Pair} → RelayOk x → Within 2000000 u → Within 2000000 i → 4 * square (relayVoltage x u i) ≤ 14112000000000000
+relay-square h k l = omega (arith, square-bound (relay-within h k l))
 
 -- ---- powers
 -- one branch's loss: 200 of them are below 3·10^17

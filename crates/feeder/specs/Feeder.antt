@@ -1,4 +1,4 @@
--- Limits, radial form and what is due 0 (01): 11 and 20 to 24, each the first line with that fault, and the feeder that has none. Assumes nothing.
+-- Limits, radial form and what is due 0 (01, 02): 11 and 20 to 24, each the first line with that fault, the feeder that has none, and its taps. Assumes nothing.
 use mathlib.Core.Bool.{Bool, _&&_, cond, false, not, true}
 use mathlib.Core.List.{List, [], _∷_, map}
 use Prim.Native.Nat.{_+_, _-_, suc, zero, ℕ}
@@ -28,8 +28,9 @@ use Rattle.feeder.specs.declared.Phases.{Phases}
 use Rattle.feeder.specs.declared.Signs.{Signs}
 use Rattle.feeder.specs.declared.Terminals.{Terminals}
 use Rattle.feeder.specs.declared.Terminals.the-variants.{AB, BC, CA, OnA, OnB, OnC}
+use Rattle.feeder.specs.declared.Taps.{Taps}
 use Rattle.feeder.specs.declared.Three.{Three}
-use Rattle.integers.specs.Lists.{all, count}
+use Rattle.integers.specs.Lists.{all, chosen, count, tab}
 use Rattle.integers.specs.Pairs.{0c, inside}
 use Rattle.integers.specs.declared.Pair.{Pair}
 use Rattle.text.specs.Lines.{nth}
@@ -106,11 +107,23 @@ tap f = Given (negℤ (pos 16)) (pos 16) f
 abbrev pub turns : Column
 turns = Given (pos 1) (pos 1000000) noPhases
 
+-- 02: "A regulator row gets p4 level and p5 bandwidth (cV, 0 to 20,000), p6 potential ratio and p7 current ratio (1 to 10,000), p8 and p9 compensator R and X
+-- (limits as for lines)"
+abbrev pub centivolts : Column
+centivolts = Given (pos 0) (pos 20000) noPhases
+
+abbrev pub ratio : Column
+ratio = Given (pos 1) (pos 10000) noPhases
+
+-- "Level 0 keeps the taps fixed, and then p5 to p9 are 0, under 24 and not 11": at level 0 these columns are unused
+abbrev pub relayColumns : ℤ → List Column
+relayColumns level = cond (inside 0 level) [] (centivolts ∷ ratio ∷ ratio ∷ impedance noPhases ∷ impedance noPhases ∷ [])
+
 -- "L: p1–p12 are r,x of aa, ab, ac, bb, bc, cc, each within ±100,000,000 µΩ, 0 where a phase is absent";
--- "R: p1–p3 taps of A, B, C, −16 to 16; 0 on an absent phase; p4–p12 0"; "Y, D: p1 = N and p2 = M, each 1 to 1,000,000; p3–p8 r,x of A, B, C,
--- limits as for lines; p9–p12 0; phases ABC". A column that is not listed is unused
-abbrev pub columns : Kind → List Column
-columns L =
+-- "R: p1–p3 taps of A, B, C, −16 to 16; 0 on an absent phase", and p4 to p9 as above; "Y, D: p1 = N and p2 = M, each 1 to 1,000,000; p3–p8 r,x of A, B, C,
+-- limits as for lines; p9–p12 0; phases ABC". A column that is not listed is unused. Given are the kind and the row's p4
+abbrev pub columns : Kind → ℤ → List Column
+columns L level =
     let aa = impedance (phaseSet true false false) in
     let ab = impedance (phaseSet true true false) in
     let ac = impedance (phaseSet true false true) in
@@ -118,12 +131,12 @@ columns L =
     let bc = impedance (phaseSet false true true) in
     let cc = impedance (phaseSet false false true) in
     aa ∷ aa ∷ ab ∷ ab ∷ ac ∷ ac ∷ bb ∷ bb ∷ bc ∷ bc ∷ cc ∷ cc ∷ []
-columns R = tap (phaseSet true false false) ∷ tap (phaseSet false true false) ∷ tap (phaseSet false false true) ∷ []
-columns Y = let z = impedance noPhases in turns ∷ turns ∷ z ∷ z ∷ z ∷ z ∷ z ∷ z ∷ []
-columns D = let z = impedance noPhases in turns ∷ turns ∷ z ∷ z ∷ z ∷ z ∷ z ∷ z ∷ []
+columns R level = tap (phaseSet true false false) ∷ tap (phaseSet false true false) ∷ tap (phaseSet false false true) ∷ centivolts ∷ relayColumns level
+columns Y level = let z = impedance noPhases in turns ∷ turns ∷ z ∷ z ∷ z ∷ z ∷ z ∷ z ∷ []
+columns D level = let z = impedance noPhases in turns ∷ turns ∷ z ∷ z ∷ z ∷ z ∷ z ∷ z ∷ []
 
-unfoldable pub columnOf : Kind → ℕ → Column
-columnOf k j = getD (columns k) (j - 1) Unused
+unfoldable pub columnOf : Kind → List ℤ → ℕ → Column
+columnOf k p j = getD (columns k (nth p 4)) (j - 1) Unused
 
 -- ---- 11: "Voltages −2,000,000 to 2,000,000; tol 0 to 1,000 cV; sweeps 1 to 100", the limits of each kind of row, at most 200 and 300 rows
 abbrev pub between : ℤ → ℤ → ℤ → Bool
@@ -138,7 +151,7 @@ inLimit (Given lo hi f) z = between lo hi z
 inLimit Unused z = true
 
 unfoldable pub branchIn : Kind → List ℤ → Bool
-branchIn k p = all (λ j. inLimit (columnOf k j) (nth p j)) (count 1 12)
+branchIn k p = all (λ j. inLimit (columnOf k p j) (nth p j)) (count 1 12)
 
 -- "vn 1 to 2,000,000 cV; p, q in VA, within ±3,000,000"; 02, of AB, BC and CA: "For these rows vn may reach 4,000,000"
 abbrev pub vnMost : Terminals → ℤ
@@ -191,7 +204,7 @@ threeAt p k = record { a = pairAt p k; b = pairAt p (k + 2); c = pairAt p (k + 4
 -- "each branch is one record that carries its device"
 unfoldable pub deviceOf : Kind → List ℤ → Device
 deviceOf L p = Line (record { aa = pairAt p 1; ab = pairAt p 3; ac = pairAt p 5; bb = pairAt p 7; bc = pairAt p 9; cc = pairAt p 11 })
-deviceOf R p = Regulator (record { a = nth p 1; b = nth p 2; c = nth p 3 })
+deviceOf R p = Regulator (record { taps = record { a = nth p 1; b = nth p 2; c = nth p 3 }; level = nth p 4; band = nth p 5; potential = nth p 6; current = nth p 7; z = pairAt p 8 })
 deviceOf Y p = Transformer (record { connection = Wye; n = nth p 1; m = nth p 2; z = threeAt p 3 })
 deviceOf D p = Transformer (record { connection = Delta; n = nth p 1; m = nth p 2; z = threeAt p 3 })
 
@@ -232,6 +245,54 @@ unfoldable pub phasesOf : Feeder → ℕ → Phases
 phasesOf f zero = allPhases
 phasesOf f (suc k) = branchAt f (suc k) .phases
 
+-- ---- regulators and their taps (02)
+abbrev pub noTaps : Taps
+noTaps = record { a = pos 0; b = pos 0; c = pos 0 }
+
+abbrev pub tapAt : Taps → Phase → ℤ
+tapAt t A = t .a
+tapAt t B = t .b
+tapAt t C = t .c
+
+abbrev pub regulates : Device → Bool
+regulates (Line z) = false
+regulates (Regulator x) = true
+regulates (Transformer x) = false
+
+-- a device's taps and level, and the device with other taps
+abbrev pub tapsOn : Device → Taps
+tapsOn (Line z) = noTaps
+tapsOn (Regulator x) = x .taps
+tapsOn (Transformer x) = noTaps
+
+abbrev pub levelOf : Device → ℤ
+levelOf (Line z) = pos 0
+levelOf (Regulator x) = x .level
+levelOf (Transformer x) = pos 0
+
+abbrev pub tapped : Taps → Device → Device
+tapped t (Line z) = Line z
+tapped t (Regulator x) = Regulator (record { taps = t; level = x .level; band = x .band; potential = x .potential; current = x .current; z = x .z })
+tapped t (Transformer x) = Transformer x
+
+abbrev pub tappedBranch : Taps → Branch → Branch
+tappedBranch t b = record { from = b .from; phases = b .phases; device = tapped t (b .device) }
+
+-- the rows of the regulators, "in feeder order"
+unfoldable pub regulators : Feeder → List ℕ
+regulators f = chosen (λ k. regulates (branchAt f k .device)) (rowsOf f)
+
+-- the feeder with other taps, which stand by node number as voltages do
+unfoldable pub withTaps : List Taps → Feeder → Feeder
+withTaps t f = record {
+  source = f .source;
+  tol = f .tol;
+  limit = f .limit;
+  nodes = f .nodes;
+  branches = tab (λ k. tappedBranch (getD t k noTaps) (branchAt f k)) 1 (rowCount f);
+  loads = f .loads;
+}
+
 -- the node n steps above i, and the source once it is arrived at
 unfoldable pub above : (ℕ → ℕ) → ℕ → ℕ → ℕ
 above par zero i = i
@@ -261,7 +322,7 @@ zeroIfDue f (Given lo hi g) z = cond (allOf g f) true (inside 0 z)
 zeroIfDue f Unused z = inside 0 z
 
 unfoldable pub zeros : Kind → Phases → List ℤ → Bool
-zeros k f p = all (λ j. zeroIfDue f (columnOf k j) (nth p j)) (count 1 12)
+zeros k f p = all (λ j. zeroIfDue f (columnOf k p j) (nth p j)) (count 1 12)
 
 unfoldable pub notZero : Rows → Found
 notZero r = firstBranch (λ k b. not (zeros (b .kind) (b .phases) (b .p))) r

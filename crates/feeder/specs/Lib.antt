@@ -27,3 +27,4 @@ pub mod NodeNames
 pub mod FeederFinds
 pub mod LineOfRow
 pub mod FeederPoints
+pub mod TapLaws

@@ -10,12 +10,12 @@ use Rattle.answers.specs.Only.{Only, after-only, at-only, good-only, if-only}
 use Rattle.answers.specs.declared.Found.{Found}
 use Rattle.answers.specs.declared.Found.the-variants.{At, Nothing}
 use Rattle.answers.specs.declared.Refusal.{Refusal}
-use Rattle.answers.specs.declared.Refusal.the-variants.{BufferShort, CurrentBeyond, CurrentDiffers, Layout, LoadBeyond, NameDiffers, NotReached, NotSettled, NotZero, OutOfLimit, PhaseAbsent, ReportLayout, SecondTo, SourceDiffers, TooLong, TotalDiffers, UnknownFrom, VoltageBeyond, VoltageOff, ZeroVoltage}
+use Rattle.answers.specs.declared.Refusal.the-variants.{BufferShort, CurrentBeyond, CurrentDiffers, Layout, LoadBeyond, NameDiffers, NotReached, NotSettled, NotZero, OutOfLimit, PhaseAbsent, ReportLayout, SecondTo, SourceDiffers, TapDiffers, TapsMoving, TooLong, TotalDiffers, UnknownFrom, VoltageBeyond, VoltageOff, ZeroVoltage}
 use Rattle.feeder.specs.Faults.{First, None, PointsAt}
 use Rattle.feeder.specs.Feeder.{orElse}
 use Rattle.integers.specs.Bools.{clash}
 
--- the turn of each refusal: 9 to 24 come before all others, and behind them the check goes 50 to 52, 30 to 32, 53 to 55. The check has none of 33, 34 and 40
+-- the turn of each refusal: 9 to 24 come before all others, and behind them the check goes 50 to 52, 30 to 32, 53 to 56. The check has none of 33 to 35 and 40
 abbrev pub turn : Refusal → ℕ
 turn TooLong = 0
 turn (Layout n) = 1
@@ -34,9 +34,11 @@ turn (CurrentBeyond n) = 13
 turn (CurrentDiffers n) = 14
 turn (VoltageOff n) = 15
 turn TotalDiffers = 16
-turn (VoltageBeyond n) = 17
-turn (NotSettled n) = 17
-turn (BufferShort n) = 17
+turn (TapDiffers n) = 17
+turn (VoltageBeyond n) = 18
+turn (NotSettled n) = 18
+turn (TapsMoving n) = 18
+turn (BufferShort n) = 18
 
 -- ---- a search finds the first line with a fault, or there is none
 pub record Finds (x : Found) (Fault : ℕ → Type 0) : Type 0 where

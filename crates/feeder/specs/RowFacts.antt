@@ -38,7 +38,7 @@ use Rattle.text.specs.Lines.{nth}
 -- what a device's equations ask of its row: no divisor is 0, and a transformer has all phases
 abbrev pub Sized : Device → Phases → Type 0
 Sized (Line z) f = Unit {0}
-Sized (Regulator t) f = (0 < natAbs (pos 160 -ℤ t .a)) × ((0 < natAbs (pos 160 -ℤ t .b)) × (0 < natAbs (pos 160 -ℤ t .c)))
+Sized (Regulator x) f = (0 < natAbs (pos 160 -ℤ x .taps .a)) × ((0 < natAbs (pos 160 -ℤ x .taps .b)) × (0 < natAbs (pos 160 -ℤ x .taps .c)))
 Sized (Transformer x) f = (0 < natAbs (x .n)) × ((p : Phase) → has f p ≡ true)
 
 -- a branch: its device, and its phases are its from-node's
@@ -65,9 +65,9 @@ tap-sized t e =
     omega (arith, leZ-true t (pos 16) (h .1), add-parts (pos 160) (negℤ t), pos-neg t, neg-neg t, abs-parts (pos 160 -ℤ t))
 
 -- the limit of column j, of any kind of row
-pub column-in : (k : Kind) (p : List ℤ) → branchIn k p ≡ true → (j : ℕ) → j < 12 → inLimit (columnOf k (1 + j)) (nth p (1 + j)) ≡ true
+pub column-in : (k : Kind) (p : List ℤ) → branchIn k p ≡ true → (j : ℕ) → j < 12 → inLimit (columnOf k p (1 + j)) (nth p (1 + j)) ≡ true
 unfolding branchIn
-column-in k p e j q = count-true (λ j. inLimit (columnOf k j) (nth p j)) 1 12 e j q
+column-in k p e j q = count-true (λ j. inLimit (columnOf k p j) (nth p j)) 1 12 e j q
 
 full : (f : Phases) → allOf allPhases f ≡ true → (p : Phase) → has f p ≡ true
 full f e A = each-true (λ p. cond (has allPhases p) (has f p) true) e A

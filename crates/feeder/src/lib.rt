@@ -57,6 +57,16 @@ pub struct Taps {
     pub c: i64,
 }
 
+// A regulator: its taps, and the relay that sets them where level is above 0: level and band in cV, potential ratio, current ratio, compensator R + jX.
+pub struct TapChanger {
+    pub taps: Taps,
+    pub level: i64,
+    pub band: i64,
+    pub potential: i64,
+    pub current: i64,
+    pub z: Pair,
+}
+
 // Grounded wye to grounded wye, or delta to grounded wye.
 pub enum Connection {
     Wye,
@@ -73,7 +83,7 @@ pub struct Windings {
 
 pub enum Device {
     Line(LineZ),
-    Regulator(Taps),
+    Regulator(TapChanger),
     Transformer(Windings),
 }
 

@@ -1,11 +1,11 @@
 -- The words of all answers fit into 64 bits, and each can be taken apart into the sweeps, the number and the value. Assumes nothing.
 use mathlib.Core.List.{List}
 use mathlib.Core.Path.{_∙_, _≡_, refl}
-use Prim.Native.Nat.{_<_, _≤_, _^_, ℕ}
+use Prim.Native.Nat.{_<_, _^_, _≤_, ℕ}
 use native.Mathlib.Omega.{arith}
 use Rattle.answers.specs.Answers.{numberOf, valueOf}
 use Rattle.answers.specs.declared.Refusal.{Refusal}
-use Rattle.answers.specs.declared.Refusal.the-variants.{BufferShort, CurrentBeyond, CurrentDiffers, Layout, LoadBeyond, NameDiffers, NotReached, NotSettled, NotZero, OutOfLimit, PhaseAbsent, ReportLayout, SecondTo, SourceDiffers, TooLong, TotalDiffers, UnknownFrom, VoltageBeyond, VoltageOff, ZeroVoltage}
+use Rattle.answers.specs.declared.Refusal.the-variants.{BufferShort, CurrentBeyond, CurrentDiffers, Layout, LoadBeyond, NameDiffers, NotReached, NotSettled, NotZero, OutOfLimit, PhaseAbsent, ReportLayout, SecondTo, SourceDiffers, TapDiffers, TapsMoving, TooLong, TotalDiffers, UnknownFrom, VoltageBeyond, VoltageOff, ZeroVoltage}
 use Rattle.flarecomb.specs.CheckValues.{check-value}
 use Rattle.flarecomb.specs.StudyValues.{study-length, study-sweeps, study-value}
 use Rattle.flarecomb.specs.Words.{CheckWord, StudyWord, numberIn, sweepsIn, valueIn, word, wordOfCheck, wordOfStudy}
@@ -13,10 +13,10 @@ use Rattle.ladder.specs.Study.{fitted, studyNumber, studyOf, studySweeps, study
 use Rattle.ladder.specs.StudyLaws.{study-told}
 use Rattle.ladder.specs.declared.Study.{Study}
 use Rattle.ladder.specs.declared.Study.the-variants.{NoReport, Written}
-use Rattle.report_check.specs.Check.{checkNumber, checkOf, checkValue, checked}
-use Rattle.report_check.specs.CheckStages.{check-told}
-use Rattle.report_check.specs.declared.Verdict.{Verdict}
-use Rattle.report_check.specs.declared.Verdict.the-variants.{Fail, Pass}
+use Rattle.verdicts.specs.Check.{checkNumber, checkOf, checkValue, checked}
+use Rattle.verdicts.specs.Passed.{check-told}
+use Rattle.verdicts.specs.declared.Verdict.{Verdict}
+use Rattle.verdicts.specs.declared.Verdict.the-variants.{Fail, Pass}
 
 -- ---- a word of sweeps and a number below 2^16 and a value below 2^32
 pub record Apart (w sweeps number value : ℕ) : Type 0 where
@@ -34,8 +34,8 @@ apart sweeps number value o p q = record {
   value-back = omega arith;
 }
 
--- the table's numbers are 9 to 55
-pub numbers-in : (x : Refusal) → (9 ≤ numberOf x) × (numberOf x ≤ 55)
+-- the table's numbers are 9 to 56
+pub numbers-in : (x : Refusal) → (9 ≤ numberOf x) × (numberOf x ≤ 56)
 numbers-in TooLong = (omega arith, omega arith)
 numbers-in (Layout n) = (omega arith, omega arith)
 numbers-in (OutOfLimit n) = (omega arith, omega arith)
@@ -49,6 +49,7 @@ numbers-in (LoadBeyond n) = (omega arith, omega arith)
 numbers-in (CurrentBeyond n) = (omega arith, omega arith)
 numbers-in (VoltageBeyond n) = (omega arith, omega arith)
 numbers-in (NotSettled n) = (omega arith, omega arith)
+numbers-in (TapsMoving n) = (omega arith, omega arith)
 numbers-in (BufferShort n) = (omega arith, omega arith)
 numbers-in ReportLayout = (omega arith, omega arith)
 numbers-in (NameDiffers n) = (omega arith, omega arith)
@@ -56,6 +57,7 @@ numbers-in (SourceDiffers n) = (omega arith, omega arith)
 numbers-in (CurrentDiffers n) = (omega arith, omega arith)
 numbers-in (VoltageOff n) = (omega arith, omega arith)
 numbers-in TotalDiffers = (omega arith, omega arith)
+numbers-in (TapDiffers n) = (omega arith, omega arith)
 
 pub refusal-apart : (x : Refusal) → valueOf x < 2 ^ 32 → Apart (word 0 (numberOf x) (valueOf x)) 0 (numberOf x) (valueOf x)
 refusal-apart x q = let n = numbers-in x in apart 0 (numberOf x) (valueOf x) (omega arith) (omega arith) q

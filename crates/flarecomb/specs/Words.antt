@@ -4,8 +4,8 @@ use Prim.Native.Nat.{_%_, _*_, _+_, _/_, _<_, _^_, ℕ}
 use Rattle.answers.specs.Answers.{Done, Outcome, Told}
 use Rattle.ladder.specs.Study.{Report, reportLength, studyNumber, studySweeps, studyValue, sweepsTold}
 use Rattle.ladder.specs.declared.Study.{Study}
-use Rattle.report_check.specs.Check.{checkNumber, checkValue}
-use Rattle.report_check.specs.declared.Verdict.{Verdict}
+use Rattle.verdicts.specs.Check.{checkNumber, checkValue}
+use Rattle.verdicts.specs.declared.Verdict.{Verdict}
 
 -- the sweeps in bits 48 to 63, the number in bits 32 to 47, the value in bits 0 to 31
 unfoldable pub word : ℕ → ℕ → ℕ → ℕ

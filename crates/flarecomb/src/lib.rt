@@ -6,14 +6,14 @@ ghost use Rattle.account.specs.Account.{PowerAccount};
 ghost use Rattle.answers.specs.Answers.{numberOf, valueOf};
 ghost use Rattle.flarecomb.specs.Words.{CheckWord, StudyWord, word, wordOfCheck, wordOfStudy};
 ghost use Rattle.ladder.specs.Study.{bufferOf, fitted, studyOf};
-ghost use Rattle.report_check.specs.Check.{checkOf, checked};
+ghost use Rattle.verdicts.specs.Check.{checkOf, checked};
 use answers::Refusal;
 use answers::number_of;
 use answers::value_of;
 use ladder::Study;
 use ladder::study_feeder;
-use report_check::Verdict;
 use report_check::check;
+use verdicts::Verdict;
 
 // sweeps · 2^48 + number · 2^32 + value
 fn word_of(sweeps: usize, number: usize, value: usize) -> u64

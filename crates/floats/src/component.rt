@@ -227,7 +227,7 @@ fn values_of(b: Branch) -> Component {
     let device = b.device;
     match device {
         Device::Line(z) => line(phases, z),
-        Device::Regulator(taps) => regulator(phases, taps),
+        Device::Regulator(x) => regulator(phases, x.taps),
         Device::Transformer(windings) => transformer(windings),
     }
 }

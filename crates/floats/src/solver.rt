@@ -18,11 +18,14 @@ use crate::phasor::put_phasors;
 use crate::phasor::real;
 use crate::phasor::scale;
 use crate::phasor::sub;
+use arrays::Branches;
+use arrays::Loads;
 use arrays::Places;
-use feeder::Branch;
+use arrays::Settings;
+use arrays::branch_at;
+use arrays::load_at;
 use feeder::Load;
 use feeder::LoadKind;
-use feeder::Network;
 use feeder::Terminals;
 
 // Whether the voltages settled, and the number of sweeps made.
@@ -127,13 +130,13 @@ fn load_currents(l: Load, voltages: Phasors) -> Phasors {
 }
 
 // What the loads draw at each node.
-fn drawn(loads: [Load; 300], rows: usize, v: &PhasorRows, own: &mut PhasorRows) {
+fn drawn(loads: &Loads, rows: usize, v: &PhasorRows, own: &mut PhasorRows) {
     let count = load_count(rows);
     let none = [[0.0f64; 6]; 201];
     *own = none;
     let mut row = 0;
     while row < count {
-        let l = loads[row];
+        let l = load_at(loads, row);
         row += 1;
         let node = place(l.node);
         let u = phasors_at(v, node);
@@ -143,7 +146,7 @@ fn drawn(loads: [Load; 300], rows: usize, v: &PhasorRows, own: &mut PhasorRows) 
 
 // The currents, from what the loads draw at each node: upward, what the branches take is added.
 fn upward(
-    branches: [Branch; 201],
+    branches: &Branches,
     rows: usize,
     order: &Places,
     quantity: Quantity,
@@ -152,7 +155,7 @@ fn upward(
     let mut left = place(rows);
     while 0 < left {
         let m = place(order[left]);
-        let b = branches[m];
+        let b = branch_at(branches, m);
         let n = place(b.from);
         let far = phasors_at(i, m);
         add_at(i, n, near_currents(b, quantity, far));
@@ -160,9 +163,20 @@ fn upward(
     }
 }
 
+// The voltages of node m, from those of the node that feeds it and the currents of the branch between them.
+fn pass_down(branches: &Branches, m: usize, quantity: Quantity, i: &PhasorRows, v: &mut PhasorRows)
+    requires { ⌜ m < 201 ⌝ }
+{
+    let b = branch_at(branches, m);
+    let n = place(b.from);
+    let near = phasors_at(v, n);
+    let current = phasors_at(i, m);
+    put_phasors(v, m, far_voltages(b, quantity, near, current));
+}
+
 // The voltages from the currents, from the source downward.
 fn downward(
-    branches: [Branch; 201],
+    branches: &Branches,
     rows: usize,
     order: &Places,
     quantity: Quantity,
@@ -178,11 +192,7 @@ fn downward(
     while next <= last {
         let m = place(order[next]);
         next += 1;
-        let b = branches[m];
-        let n = place(b.from);
-        let near = phasors_at(v, n);
-        let current = phasors_at(i, m);
-        put_phasors(v, m, far_voltages(b, quantity, near, current));
+        pass_down(branches, m, quantity, i, v);
     }
 }
 
@@ -212,7 +222,7 @@ fn all_still(rows: usize, v: &PhasorRows, w: &PhasorRows) -> bool {
 
 // One sweep, from what the loads draw at each node, which `i` holds: the currents there, the voltages to which they lead, and whether these stand still.
 pub fn sweep(
-    branches: [Branch; 201],
+    branches: &Branches,
     rows: usize,
     order: &Places,
     quantity: Quantity,
@@ -228,21 +238,26 @@ pub fn sweep(
     settled
 }
 
-// The solution, if 1,000 sweeps are enough: the voltages at each node and the currents at the far end of each branch, by node numbers as in the feeder in memory.
-pub fn solve(g: Network, v: &mut PhasorRows, i: &mut PhasorRows) -> Solution {
-    let branches = g.branches;
-    let rows = g.rows;
-    let order = g.order;
-    let loads = g.loads;
-    let count = g.count;
-    let source = phasors_of(g.source);
+// The solution, if 1,000 sweeps are enough: the voltages at each node and the currents at the far end of each branch, by node numbers as in the feeder's arrays.
+// Regulators have the taps that the branches hold.
+pub fn solve(
+    settings: Settings,
+    branches: &Branches,
+    loads: &Loads,
+    order: &Places,
+    v: &mut PhasorRows,
+    i: &mut PhasorRows,
+) -> Solution {
+    let rows = settings.rows;
+    let count = settings.count;
+    let source = phasors_of(settings.source);
     let none = [[0.0f64; 6]; 201];
-    downward(branches, rows, &order, Quantity::Value, source, &none, v);
+    downward(branches, rows, order, Quantity::Value, source, &none, v);
     let mut sweeps: usize = 0;
     while sweeps < 1000 {
         drawn(loads, count, v, i);
         sweeps += 1;
-        if sweep(branches, rows, &order, Quantity::Value, source, i, v) {
+        if sweep(branches, rows, order, Quantity::Value, source, i, v) {
             return Solution {
                 settled: true,
                 sweeps,

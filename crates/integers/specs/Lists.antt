@@ -1,7 +1,7 @@
 -- Sums and tests over lists of rows, and tables of values. Assumes nothing.
-use mathlib.Core.Bool.{Bool, true, false, cond, _&&_}
+use mathlib.Core.Bool.{Bool, _&&_, cond, false, true}
 use mathlib.Core.List.{List, [], _∷_}
-use Prim.Native.Nat.{ℕ, zero, suc, _+_}
+use Prim.Native.Nat.{_+_, suc, zero, ℕ}
 use Rattle.integers.specs.declared.Pair.{Pair}
 use Rattle.integers.specs.Pairs.{0c, _+c_}
 
@@ -21,6 +21,11 @@ all f (x ∷ l) = f x && all f l
 unfoldable pub any : {X : Type 0} → (X → Bool) → List X → Bool
 any f [] = false
 any f (x ∷ l) = cond (f x) true (any f l)
+
+-- those of which a test says so, in their order
+unfoldable pub chosen : {X : Type 0} → (X → Bool) → List X → List X
+chosen f [] = []
+chosen f (x ∷ l) = cond (f x) (x ∷ chosen f l) (chosen f l)
 
 -- f k, f (k + 1), .., n of them
 unfoldable pub tab : {X : Type 0} → (ℕ → X) → ℕ → ℕ → List X

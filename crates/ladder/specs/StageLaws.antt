@@ -19,8 +19,8 @@ use Rattle.integers.specs.ListLaws.{getD-map, getD-tab, length-tab}
 use Rattle.integers.specs.Lists.{count}
 use Rattle.integers.specs.Pairs.{0c}
 use Rattle.integers.specs.declared.Pair.{Pair}
-use Rattle.iteration.specs.Ladder.{Solution, solution}
-use Rattle.iteration.specs.Runs.{GoodRun, SolvedAs}
+use Rattle.iteration.specs.Ladder.{Solution}
+use Rattle.iteration.specs.Runs.{GoodRun}
 use Rattle.iteration.specs.RunLaws.{same-array}
 use Rattle.ladder.specs.Stages.{StudyAs, fitted-is, fittedFrom, fittedWith, study-same, textOf}
 use Rattle.ladder.specs.Study.{bufferOf, studyOf}
@@ -34,6 +34,8 @@ use Rattle.passes.specs.Same.{Same, loss-same, lost-same, source-same}
 use Rattle.report_writer.specs.ReportIs.{Shown}
 use Rattle.report_writer.specs.Tables.{Given}
 use Rattle.report_lines.specs.declared.Figures.{Figures}
+use Rattle.rounds.specs.Rounds.{Regulated, regulated}
+use Rattle.rounds.specs.Turns.{RegulatedAs}
 use Rattle.sweeps.specs.Sweeps.{Known}
 
 -- ---- the whole
@@ -47,36 +49,42 @@ whole-refused s out x r last e q b = study-same {p = refused x} (rw e) (record {
 pub whole-read : (s : List ℕ) (out : List ℕ) (f : Feeder) (r : Study) (last : List ℕ) → reading s ≡ good f → StudyAs (fittedFrom f (length out)) out r last → StudyAs (reading s >>= λ f. fittedFrom f (length out)) out r last
 whole-read s out f r last e h = study-same {p = fittedFrom f (length out)} (rw e) h
 
--- ---- the iteration's end
-pub record RunGood (f : Feeder) (k : ℕ) (r : Run) (v i : List Three) : Type 0 where
-  pub found : Solution
-  pub whole : solution f ≡ good found
-  pub sweeps : k ≡ found .sweeps
-  pub good-run : GoodRun f found v i (r .drawn)
+-- ---- the rounds' end
+pub record RunGood (f : Feeder) (k : ℕ) (r : Run) (n : Network) (v i : List Three) : Type 0 where
+  pub found : Regulated
+  pub whole : regulated f ≡ good found
+  pub held : Held (found .feeder) n
+  pub sweeps : k ≡ found .solution .sweeps
+  pub good-run : GoodRun (found .feeder) (found .solution) v i (r .drawn)
 
-pub run-good : (f : Feeder) (k : ℕ) (r : Run) (v i : List Three) → SolvedAs f (solution f) r v i → r .solving ≡ Solved k → RunGood f k r v i
-run-good f k r v i h e = go (solution f) refl h
+pub run-good : (f : Feeder) (k : ℕ) (r : Run) (n : Network) (v i : List Three) → RegulatedAs (regulated f) r n v i → r .solving ≡ Solved k → RunGood f k r n v i
+run-good f k r n v i h e = go (regulated f) refl h
   where
-    go : (o : Outcome Solution) → solution f ≡ o → SolvedAs f o r v i → RunGood f k r v i
-    go (good x) q h =
-        let b : _≡_ {A = Solving} (Solved k) (Solved (x .sweeps)) = sym e ∙ h .solving-is .0 in
-        record { found = x; whole = q; sweeps = cc; good-run = h .solving-is .1 }
-    go (refused y) q h = let b : _≡_ {A = Solving} (Unsolved y) (Solved k) = sym (h .solving-is) ∙ e in let z : _≡_ {A = ℕ} 0 1 = cc in absurd (omega arith)
+    go : (o : Outcome Regulated) → regulated f ≡ o → RegulatedAs o r n v i → RunGood f k r n v i
+    go (good y) q h =
+        let s = h .regulating-is .1 .solving-is in
+        let b : _≡_ {A = Solving} (Solved k) (Solved (y .solution .sweeps)) = sym e ∙ s .0 in
+        record { found = y; whole = q; held = h .regulating-is .0; sweeps = cc; good-run = s .1 }
+    go (refused y) q h = let b : _≡_ {A = Solving} (Unsolved y) (Solved k) = sym (h .regulating-is) ∙ e in let z : _≡_ {A = ℕ} 0 1 = cc in absurd (omega arith)
 
-pub run-refused : (f : Feeder) (x : Refusal) (r : Run) (v i : List Three) → SolvedAs f (solution f) r v i → r .solving ≡ Unsolved x → solution f ≡ refused x
-run-refused f x r v i h e = go (solution f) refl h
+pub run-refused : (f : Feeder) (x : Refusal) (r : Run) (n : Network) (v i : List Three) → RegulatedAs (regulated f) r n v i → r .solving ≡ Unsolved x → regulated f ≡ refused x
+run-refused f x r n v i h e = go (regulated f) refl h
   where
-    go : (o : Outcome Solution) → solution f ≡ o → SolvedAs f o r v i → solution f ≡ refused x
-    go (good y) q h = let b : _≡_ {A = Solving} (Solved (y .sweeps)) (Unsolved x) = sym (h .solving-is .0) ∙ e in let z : _≡_ {A = ℕ} 0 1 = cc in absurd (omega arith)
-    go (refused y) q h = let b : _≡_ {A = Solving} (Unsolved y) (Unsolved x) = sym (h .solving-is) ∙ e in let z : y ≡ x = cc in q ∙ ap refused z
+    go : (o : Outcome Regulated) → regulated f ≡ o → RegulatedAs o r n v i → regulated f ≡ refused x
+    go (good y) q h =
+        let b : _≡_ {A = Solving} (Solved (y .solution .sweeps)) (Unsolved x) = sym (h .regulating-is .1 .solving-is .0) ∙ e in
+        let z : _≡_ {A = ℕ} 0 1 = cc in
+        absurd (omega arith)
+    go (refused y) q h = let b : _≡_ {A = Solving} (Unsolved y) (Unsolved x) = sym (h .regulating-is) ∙ e in let z : y ≡ x = cc in q ∙ ap refused z
 
-pub from-refused : (f : Feeder) (out : List ℕ) (x : Refusal) (r : Study) (last : List ℕ) → solution f ≡ refused x → r ≡ NoReport x → last ≡ out → StudyAs (fittedFrom f (length out)) out r last
+pub from-refused : (f : Feeder) (out : List ℕ) (x : Refusal) (r : Study) (last : List ℕ) → regulated f ≡ refused x → r ≡ NoReport x → last ≡ out → StudyAs (fittedFrom f (length out)) out r last
 unfolding fittedFrom
 from-refused f out x r last e q b = study-same {p = refused x} (rw e) (record { answer = q; buffer = b })
 
-pub from-solved : (f : Feeder) (out : List ℕ) (x : Solution) (r : Study) (last : List ℕ) → solution f ≡ good x → StudyAs (fittedWith f x (length out)) out r last → StudyAs (fittedFrom f (length out)) out r last
+pub from-regulated : (f : Feeder) (out : List ℕ) (y : Regulated) (r : Study) (last : List ℕ) → regulated f ≡ good y → StudyAs (fittedWith (y .feeder) (y .solution) (length out)) out r last
+    → StudyAs (fittedFrom f (length out)) out r last
 unfolding fittedFrom
-from-solved f out x r last e h = study-same {p = fittedWith f x (length out)} (rw e) h
+from-regulated f out y r last e h = study-same {p = fittedWith (y .feeder) (y .solution) (length out)} (rw e) h
 
 -- ---- the report of a solution
 pub given : {g : Network} → Known g → (x : Figures) → x .sweeps ≤ 100 → Given (g .branches) (g .rows) x

@@ -7,7 +7,8 @@ use lib.ListN.{length}
 use Rattle.answers.specs.Answers.{Outcome, _>>=_, _>>_, good, refuseIf, refused}
 use Rattle.answers.specs.declared.Refusal.the-variants.{BufferShort}
 use Rattle.feeder.specs.Feeder.{Feeder, reading}
-use Rattle.iteration.specs.Ladder.{Solution, solution}
+use Rattle.iteration.specs.Ladder.{Solution}
+use Rattle.rounds.specs.Rounds.{Regulated, regulated}
 use Rattle.ladder.specs.Study.{Report, answered, filled, fitted, report}
 use Rattle.ladder.specs.declared.Study.{Study}
 use Rattle.report.specs.Report.{reportText}
@@ -21,22 +22,22 @@ unfoldable pub fittedWith : Feeder → Solution → ℕ → Outcome Report
 fittedWith f x n = refuseIf (ltb n (length (textOf f x))) (BufferShort (length (textOf f x))) >> good (record { text = textOf f x; sweeps = x .sweeps })
 
 unfoldable pub fittedFrom : Feeder → ℕ → Outcome Report
-fittedFrom f n = solution f >>= λ x. fittedWith f x n
+fittedFrom f n = regulated f >>= λ y. fittedWith (y .feeder) (y .solution) n
 
 pub fitted-is : (s : List ℕ) (n : ℕ) → fitted s n ≡ (reading s >>= λ f. fittedFrom f n)
 unfolding fitted report fittedFrom fittedWith
 fitted-is s n = one (reading s)
   where
-    two : (f : Feeder) (o : Outcome Solution) →
-        ((o >>= λ x. good (record { text = textOf f x; sweeps = x .sweeps })) >>= λ t. refuseIf (ltb n (length (t .text))) (BufferShort (length (t .text))) >> good t)
-        ≡ (o >>= λ x. fittedWith f x n)
-    two f (good x) = refl
-    two f (refused r) = refl
+    two : (o : Outcome Regulated) →
+        ((o >>= λ y. good (record { text = textOf (y .feeder) (y .solution); sweeps = y .solution .sweeps })) >>= λ t. refuseIf (ltb n (length (t .text))) (BufferShort (length (t .text))) >> good t)
+        ≡ (o >>= λ y. fittedWith (y .feeder) (y .solution) n)
+    two (good x) = refl
+    two (refused r) = refl
 
     one : (o : Outcome Feeder) →
-        ((o >>= λ f. solution f >>= λ x. good (record { text = textOf f x; sweeps = x .sweeps })) >>= λ t. refuseIf (ltb n (length (t .text))) (BufferShort (length (t .text))) >> good t)
+        ((o >>= λ f. regulated f >>= λ y. good (record { text = textOf (y .feeder) (y .solution); sweeps = y .solution .sweeps })) >>= λ t. refuseIf (ltb n (length (t .text))) (BufferShort (length (t .text))) >> good t)
         ≡ (o >>= λ f. fittedFrom f n)
-    one (good f) = two f (solution f)
+    one (good f) = two (regulated f)
     one (refused r) = refl
 
 -- the answer, and the buffer at exit

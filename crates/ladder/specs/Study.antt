@@ -1,4 +1,4 @@
--- The study's answer for a feeder file and a buffer (01). Assumes nothing.
+-- The study's answer for a feeder file and a buffer (01, 02). Assumes nothing.
 use mathlib.Core.List.{List, _++_}
 use mathlib.Core.Path.{_≡_}
 use Prim.Native.Nat.{_≤_, ℕ}
@@ -8,22 +8,23 @@ use Rattle.answers.specs.Answers.{Outcome, Told, _>>=_, _>>_, good, numberOf, r
 use Rattle.answers.specs.declared.Refusal.the-variants.{BufferShort}
 use Rattle.feeder.specs.Faults.{PointsIntoFeeder}
 use Rattle.feeder.specs.Feeder.{Feeder, reading}
-use Rattle.iteration.specs.Ladder.{Solution, solution}
+use Rattle.iteration.specs.Ladder.{solution}
 use Rattle.ladder.specs.declared.Study.{Study}
 use Rattle.ladder.specs.declared.Study.the-variants.{NoReport, Written}
 use Rattle.report.specs.Report.{reportText}
+use Rattle.rounds.specs.Rounds.{Regulated, regulated}
 
 -- a report's text, and "the number of sweeps made"
 pub record Report : Type 0 where
   pub text : List ℕ
   pub sweeps : ℕ
 
--- the report for a feeder's bytes: the text of the solution that the sweeps come to
+-- the report for a feeder's bytes: the text of the solution that the rounds come to, with their last taps; "the sweeps reported .. are those of the last round"
 unfoldable pub report : List ℕ → Outcome Report
 report s = do
   f ← reading s
-  x ← solution f
-  good (record { text = reportText f (x .voltages) (x .currents) (x .sweeps); sweeps = x .sweeps })
+  x ← regulated f
+  good (record { text = reportText (x .feeder) (x .solution .voltages) (x .solution .currents) (x .solution .sweeps); sweeps = x .solution .sweeps })
 
 -- 40: "buffer shorter than the report", with the "length needed"
 unfoldable pub fitted : List ℕ → ℕ → Outcome Report
@@ -76,14 +77,15 @@ pub record StudyTold (o : Outcome Report) (r : Study) : Type 0 where
 abbrev pub StudyPoints : List ℕ → Study → Type 0
 StudyPoints s r = PointsIntoFeeder s (length s ≤ 65536) (λ y. r ≡ NoReport y)
 
--- where a report of len bytes is answered, with k sweeps, for a buffer of n: the sweeps are the ladder's, from 1 to the feeder's limit
+-- where a report of len bytes is answered, with k sweeps, for a buffer of n: the sweeps are the ladder's in the last round, from 1 to the feeder's limit
 pub record StudyGood (s : List ℕ) (n len k : ℕ) : Type 0 where
   pub feeder : Feeder
-  pub solution-found : Solution
+  pub found : Regulated
   pub read : reading s ≡ good feeder
-  pub solved-as : solution feeder ≡ good solution-found
-  pub sweeps : k ≡ solution-found .sweeps
+  pub regulated-as : regulated feeder ≡ good found
+  pub solved-as : solution (found .feeder) ≡ good (found .solution)
+  pub sweeps : k ≡ found .solution .sweeps
   pub first : 1 ≤ k
   pub limit : k ≤ feeder .limit
-  pub text-length : len ≡ length (reportText feeder (solution-found .voltages) (solution-found .currents) (solution-found .sweeps))
+  pub text-length : len ≡ length (reportText (found .feeder) (found .solution .voltages) (found .solution .currents) (found .solution .sweeps))
   pub fits : len ≤ n

@@ -10,13 +10,17 @@ use Rattle.answers.specs.AnswerLaws.{bound, not-if, same-good}
 use Rattle.answers.specs.Answers.{Outcome, _>>=_, _>>_, good, refuseIf, refused}
 use Rattle.answers.specs.declared.Refusal.{Refusal}
 use Rattle.answers.specs.declared.Refusal.the-variants.{BufferShort}
-use Rattle.feeder.specs.Feeder.{Feeder, reading}
-use Rattle.iteration.specs.Ladder.{Solution, solution}
+use Rattle.feeder.specs.Feeder.{reading}
+use Rattle.feeder.specs.FeederLaws.{sound}
+use Rattle.feeder.specs.TapLaws.{sound-taps}
+use Rattle.iteration.specs.Ladder.{solution}
 use Rattle.iteration.specs.LadderLaws.{sweeps-in}
 use Rattle.ladder.specs.Study.{Report, StudyGood, StudyTold, answered, fitted, report, studyOf}
 use Rattle.ladder.specs.declared.Study.{Study}
 use Rattle.ladder.specs.declared.Study.the-variants.{NoReport, Written}
 use Rattle.report.specs.Report.{reportText}
+use Rattle.rounds.specs.Rounds.{Regulated, regulated}
+use Rattle.rounds.specs.RoundsLaws.{Ended, regulated-end}
 
 -- the report behind an answer
 record Answered (x : Outcome Report) (len k : ℕ) : Type 0 where
@@ -38,24 +42,28 @@ pub study-good : (s : List ℕ) (n len k : ℕ) → studyOf s n ≡ Written len 
 unfolding studyOf fitted report
 study-good s n len k e =
     let a = answer (fitted s n) len k e in
-    let whole : Feeder → Solution → Outcome Report = λ f x. good (record { text = reportText f (x .voltages) (x .currents) (x .sweeps); sweeps = x .sweeps }) in
+    let whole : Regulated → Outcome Report = λ y. good (record { text = reportText (y .feeder) (y .solution .voltages) (y .solution .currents) (y .solution .sweeps); sweeps = y .solution .sweeps }) in
     let b = bound (report s) (λ t. refuseIf (ltb n (length (t .text))) (BufferShort (length (t .text))) >> good t) (a .report-got) (a .came) in
     let c = not-if (ltb n (length (b .value .text))) _ (good (b .value)) (a .report-got) (b .rest) in
-    let d = bound (reading s) (λ f. solution f >>= whole f) (b .value) (b .came) in
-    let g = bound (solution (d .value)) (whole (d .value)) (b .value) (d .rest) in
+    let d = bound (reading s) (λ f. regulated f >>= whole) (b .value) (b .came) in
+    let g = bound (regulated (d .value)) whole (b .value) (d .rest) in
+    let y : Regulated = g .value in
+    let end : Ended (d .value) y = regulated-end (d .value) y (sound-taps s (d .value) (sound s (d .value) (d .came))) (g .came) in
+    let counted = sweeps-in (y .feeder) (y .solution) (end .solved-as) in
     let t : b .value ≡ a .report-got = same-good _ _ (c .1) in
-    let w : record { text = reportText (d .value) (g .value .voltages) (g .value .currents) (g .value .sweeps); sweeps = g .value .sweeps } ≡ b .value = same-good _ _ (g .rest) in
-    let m : k ≡ g .value .sweeps = a .sweeps-are ∙ sym (ap (λ (y : Report). y .sweeps) (w ∙ t)) in
+    let w : record { text = reportText (y .feeder) (y .solution .voltages) (y .solution .currents) (y .solution .sweeps); sweeps = y .solution .sweeps } ≡ b .value = same-good _ _ (g .rest) in
+    let m : k ≡ y .solution .sweeps = a .sweeps-are ∙ sym (ap (λ (y : Report). y .sweeps) (w ∙ t)) in
     let short : length (b .value .text) ≤ n = ltb-false _ _ (c .0) in
     let l : len ≡ length (b .value .text) = a .length-is ∙ sym (ap (λ (y : Report). length (y .text)) t) in
     record {
       feeder = d .value;
-      solution-found = g .value;
+      found = y;
       read = d .came;
-      solved-as = g .came;
+      regulated-as = g .came;
+      solved-as = end .solved-as;
       sweeps = m;
-      first = omega (arith, sweeps-in (d .value) (g .value) (g .came));
-      limit = omega (arith, sweeps-in (d .value) (g .value) (g .came));
+      first = omega (arith, counted);
+      limit = omega (arith, counted, end .retapped .limit);
       text-length = l ∙ sym (ap (λ (y : Report). length (y .text)) w);
       fits = omega arith;
     }

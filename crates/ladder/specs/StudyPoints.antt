@@ -12,19 +12,19 @@ use Rattle.answers.specs.declared.Refusal.the-variants.{BufferShort}
 use Rattle.feeder.specs.Feeder.{Feeder, reading}
 use Rattle.feeder.specs.FeederPoints.{ByReading, points-into-feeder, reading-short}
 use Rattle.feeder.specs.Pointing.{Late}
-use Rattle.iteration.specs.Ladder.{solution}
-use Rattle.iteration.specs.LadderLaws.{solution-only}
 use Rattle.ladder.specs.Stages.{fitted-is, fittedFrom, fittedWith, textOf}
 use Rattle.ladder.specs.Study.{StudyPoints, answered, fitted, studyOf}
 use Rattle.ladder.specs.StudyLaws.{refused-from}
 use Rattle.ladder.specs.declared.Study.{Study}
 use Rattle.ladder.specs.declared.Study.the-variants.{NoReport}
+use Rattle.rounds.specs.Rounds.{regulated}
+use Rattle.rounds.specs.RoundsLaws.{regulated-only}
 
--- behind the reading come 30 to 34 and 40
+-- behind the reading come 30 to 35 and 40
 fitted-late : (f : Feeder) (n : ℕ) → Late 8 (fittedFrom f n)
 unfolding fittedFrom fittedWith
-fitted-late f n = then-only (solution f) _ (solution-only f (omega arith) (λ j q. record { for-30 = omega arith; for-31 = omega arith; for-32 = omega arith; for-33 = omega arith }))
-    (λ x e. after-only (refuseIf (ltb n (length (textOf f x))) (BufferShort (length (textOf f x)))) _ (if-only (ltb n (length (textOf f x))) (BufferShort (length (textOf f x))) (omega arith)) (good-only _))
+fitted-late f n = then-only (regulated f) _ (regulated-only f (omega arith) (omega arith) (λ j q. record { for-30 = omega arith; for-31 = omega arith; for-32 = omega arith; for-33 = omega arith }))
+    (λ y e. let t : ℕ = length (textOf (y .feeder) (y .solution)) in after-only (refuseIf (ltb n t) (BufferShort t)) _ (if-only (ltb n t) (BufferShort t) (omega arith)) (good-only _))
 
 -- the study goes by the reading
 study-reads : (s : List ℕ) (n : ℕ) → ByReading s (length s ≤ 65536) (λ y. studyOf s n ≡ NoReport y)

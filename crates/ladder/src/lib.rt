@@ -1,4 +1,4 @@
-// The study: a feeder file, the iteration, and the report. specs/Study.antt says what it answers.
+// The study: a feeder file, the rounds of the iteration, and the report. specs/Study.antt says what it answers.
 ghost use mathlib.Core.Path.{_≡_};
 ghost use Prim.Native.Nat.{ℕ, _≤_};
 ghost use lib.ListN.{length};
@@ -21,13 +21,13 @@ use arrays::three_at;
 use devices::power;
 use integers::Pair;
 use iteration::Solving;
-use iteration::solve;
 use passes::loss_pass;
 use reading::ReadAnswer;
 use reading::read_into;
 use report_lines::Figures;
 use report_writer::put_report;
 use report_writer::report_width;
+use rounds::regulate;
 
 // What the study answers: the length of the report that it wrote and the number of sweeps made, or why it wrote none.
 pub enum Study {
@@ -74,11 +74,11 @@ fn write_solution(
     Study::Written(len, sweeps)
 }
 
-// The study of a feeder in memory.
+// The study of a feeder in memory. The rounds move the taps of a copy of its branches, and the report is of that copy.
 pub fn study_network(
     settings: Settings,
     nodes: &Names,
-    branches: &Branches,
+    branches: &mut Branches,
     loads: &Loads,
     order: &Places,
     rank: &Places,
@@ -89,7 +89,7 @@ pub fn study_network(
 {
     let mut v = [[0i64; 6]; 201];
     let mut i = [[0i64; 6]; 201];
-    let run = solve(
+    let run = regulate(
         settings,
         nodes,
         branches,
@@ -147,5 +147,5 @@ pub fn study_feeder(feeder: &[u8], out: &mut [u8]) -> Study
         return Study::NoReport(x);
     }
     let settings = read.settings;
-    study_network(settings, &nodes, &branches, &loads, &order, &rank, out)
+    study_network(settings, &nodes, &mut branches, &loads, &order, &rank, out)
 }

@@ -1,6 +1,6 @@
 -- The columns of a row, one after the other. Assumes nothing.
 use mathlib.Core.Bool.{Bool, _&&_, cond, false, true}
-use mathlib.Core.List.{List}
+use mathlib.Core.List.{List, [], _∷_}
 use mathlib.Core.Path.{_∙_, _≡_, ap, refl, sym}
 use Prim.Native.Nat.{_+_, _-_, _<_, _≤_, suc, zero, ℕ}
 use native.Mathlib.Omega.{arith}
@@ -8,7 +8,8 @@ use lib.Dec.{leb·suc-zero, leb·zero}
 use lib.IntN.{negsuc, negℤ, pos, ℤ}
 use lib.ListN.{getD, length, take}
 use lib.Seq.{ext-getD, getD-take, length-take-le}
-use Rattle.feeder.specs.Feeder.{between, branchIn, columnOf, zeros}
+use Rattle.feeder.specs.Feeder.{between, branchIn, columnOf, centivolts, impedance, inLimit, noPhases, ratio, zeroIfDue, zeros}
+use Rattle.feeder.specs.declared.Column.the-variants.{Unused}
 use Rattle.feeder.specs.declared.Kind.the-variants.{L, R, Y}
 use Rattle.feeder.specs.declared.Phases.{Phases}
 use Rattle.integers.specs.ListLaws.{getD-tab, length-tab}
@@ -78,9 +79,19 @@ pub line-in : (p : List ℤ)
 unfolding branchIn allBetween columnOf all count tab
 line-in p = all-split (λ j. between (negℤ (pos 100000000)) (pos 100000000) (nth p j)) 1 6 6
 
-pub regulator-in : (p : List ℤ) → branchIn R p ≡ allBetween (negℤ (pos 16)) (pos 16) p 1 3
-unfolding branchIn allBetween columnOf all count tab
-regulator-in p = refl
+-- taps and level, and, where that is not 0, what the relay needs
+pub regulator-in : (p : List ℤ) → branchIn R p ≡ (allBetween (negℤ (pos 16)) (pos 16) p 1 3 && (allBetween (pos 0) (pos 20000) p 4 4
+    && cond (allZero p 4 4) true (allBetween (pos 0) (pos 20000) p 5 5 && (allBetween (pos 1) (pos 10000) p 6 7 && allBetween (negℤ (pos 100000000)) (pos 100000000) p 8 9))))
+unfolding branchIn allBetween allZero columnOf all count tab
+regulator-in p = go (inside 0 (nth p 4)) (between (negℤ (pos 16)) (pos 16) (nth p 1)) (between (negℤ (pos 16)) (pos 16) (nth p 2)) (between (negℤ (pos 16)) (pos 16) (nth p 3)) (between (pos 0) (pos 20000) (nth p 4))
+  where
+    relay : Bool → ℕ → Bool
+    relay c j = inLimit (getD (cond c [] (centivolts ∷ ratio ∷ ratio ∷ impedance noPhases ∷ impedance noPhases ∷ [])) j Unused) (nth p (5 + j))
+
+    go : (c x y z w : Bool) → (x && (y && (z && (w && (relay c 0 && (relay c 1 && (relay c 2 && (relay c 3 && (relay c 4 && (relay c 5 && (relay c 6 && (relay c 7 && true))))))))))))
+        ≡ ((x && (y && (z && true))) && ((w && true) && cond (c && true) true ((relay false 0 && true) && ((relay false 1 && (relay false 2 && true)) && (relay false 3 && (relay false 4 && true))))))
+    go true x y z w = simp (and-assoc, and-true)
+    go false x y z w = simp (and-assoc, and-true)
 
 pub transformer-in : (p : List ℤ) → branchIn Y p ≡ (allBetween (pos 1) (pos 1000000) p 1 2 && allBetween (negℤ (pos 100000000)) (pos 100000000) p 3 8)
 unfolding branchIn allBetween columnOf all count tab
@@ -127,13 +138,22 @@ line-zeros f p =
     (own-due (f .c) (inside 0 (nth p 11)) (inside 0 (nth p 12)) refl ∙ and-true _)))))
 
 pub regulator-zeros : (f : Phases) (p : List ℤ)
-    → zeros R f p ≡ (zeroUnless (f .a) (f .a) p 1 1 && (zeroUnless (f .b) (f .b) p 2 2 && (zeroUnless (f .c) (f .c) p 3 3 && allZero p 4 12)))
+    → zeros R f p ≡ (zeroUnless (f .a) (f .a) p 1 1 && (zeroUnless (f .b) (f .b) p 2 2 && (zeroUnless (f .c) (f .c) p 3 3 && cond (allZero p 4 4) (allZero p 5 12) (allZero p 10 12))))
 unfolding zeros allZero columnOf all count tab
 regulator-zeros f p =
     one-due (f .a) (inside 0 (nth p 1)) _
     ∙ ap (λ (b : Bool). zeroUnless (f .a) (f .a) p 1 1 && b)
     (one-due (f .b) (inside 0 (nth p 2)) _
-    ∙ ap (λ (b : Bool). zeroUnless (f .b) (f .b) p 2 2 && b) (one-due (f .c) (inside 0 (nth p 3)) _))
+    ∙ ap (λ (b : Bool). zeroUnless (f .b) (f .b) p 2 2 && b) (one-due (f .c) (inside 0 (nth p 3)) _
+    ∙ ap (λ (b : Bool). zeroUnless (f .c) (f .c) p 3 3 && b) (go (inside 0 (nth p 4)))))
+  where
+    relay : Bool → ℕ → Bool
+    relay c j = zeroIfDue f (getD (cond c [] (centivolts ∷ ratio ∷ ratio ∷ impedance noPhases ∷ impedance noPhases ∷ [])) j Unused) (nth p (5 + j))
+
+    go : (c : Bool) → (relay c 0 && (relay c 1 && (relay c 2 && (relay c 3 && (relay c 4 && (relay c 5 && (relay c 6 && (relay c 7 && true))))))))
+        ≡ cond (c && true) (relay true 0 && (relay true 1 && (relay true 2 && (relay true 3 && (relay true 4 && (relay true 5 && (relay true 6 && (relay true 7 && true)))))))) (relay true 5 && (relay true 6 && (relay true 7 && true)))
+    go true = refl
+    go false = refl
 
 pub transformer-zeros : (f : Phases) (p : List ℤ) → zeros Y f p ≡ allZero p 9 12
 unfolding zeros allZero columnOf all count tab

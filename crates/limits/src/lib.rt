@@ -1,4 +1,4 @@
-// Refusals 11 and 24 of document 01 over rows that are read: a number out of its limit, and one that is not 0 where 0 is due.
+// Refusals 11 and 24 of documents 01 and 02 over rows that are read: a number out of its limit, and one that is not 0 where 0 is due.
 ghost use mathlib.Core.Bool.{_&&_};
 ghost use mathlib.Core.List.{List};
 ghost use mathlib.Core.Path.{_≡_};
@@ -69,6 +69,28 @@ fn line_in(n: &[i64; 17]) -> bool
     impedances_in(n, 7, 12)
 }
 
+// Taps and level; where the level is not 0, bandwidth, ratios and impedance.
+fn regulator_in(n: &[i64; 17]) -> bool
+    ensures { λ r. ⌜ r ≡ branchIn R (drop 5 (now (n .entry))) ⌝ }
+{
+    if !all_between(n, 1, 3, -16, 16) {
+        return false;
+    }
+    if !all_between(n, 4, 4, 0, 20_000) {
+        return false;
+    }
+    if all_zero(n, 4, 4) {
+        return true;
+    }
+    if !all_between(n, 5, 5, 0, 20_000) {
+        return false;
+    }
+    if !all_between(n, 6, 7, 1, 10_000) {
+        return false;
+    }
+    impedances_in(n, 8, 9)
+}
+
 // Turns, then impedances. D has the columns of Y.
 fn transformer_in(n: &[i64; 17]) -> bool
     ensures { λ r. ⌜ r ≡ branchIn Y (drop 5 (now (n .entry))) ⌝ }
@@ -86,7 +108,7 @@ fn branch_in(n: &[i64; 17]) -> bool
     let kind = kind_of(n[4]);
     match kind {
         Kind::L => line_in(n),
-        Kind::R => all_between(n, 1, 3, -16, 16),
+        Kind::R => regulator_in(n),
         Kind::Y => transformer_in(n),
         Kind::D => transformer_in(n),
     }
@@ -138,7 +160,7 @@ fn line_zeros(f: Phases, n: &[i64; 17]) -> bool
     zero_unless(f.c, f.c, n, 11, 12)
 }
 
-// Three taps.
+// Three taps, and what the level leaves unused.
 fn regulator_zeros(f: Phases, n: &[i64; 17]) -> bool
     ensures { λ r. ⌜ r ≡ zeros R f (drop 5 (now (n .entry))) ⌝ }
 {
@@ -151,7 +173,10 @@ fn regulator_zeros(f: Phases, n: &[i64; 17]) -> bool
     if !zero_unless(f.c, f.c, n, 3, 3) {
         return false;
     }
-    all_zero(n, 4, 12)
+    if all_zero(n, 4, 4) {
+        return all_zero(n, 5, 12);
+    }
+    all_zero(n, 10, 12)
 }
 
 // Whether those of p1 to p12 of a row that are due 0 are 0.

@@ -14,9 +14,9 @@ use Rattle.ladder.specs.declared.Study.{Study}
 use Rattle.ladder.specs.declared.Study.the-variants.{Written}
 use Rattle.pair.specs.Pair.{Passes}
 use Rattle.pair.specs.PairHolds.{pair-law}
-use Rattle.report_check.specs.Check.{checkOf}
-use Rattle.report_check.specs.Demand.{demand3}
-use Rattle.report_check.specs.declared.Verdict.the-variants.{Pass}
+use Rattle.verdicts.specs.Check.{checkOf}
+use Rattle.verdicts.specs.Demand.{demand3}
+use Rattle.verdicts.specs.declared.Verdict.the-variants.{Pass}
 
 -- a report that fits is the report
 fitted-report : (s : List ℕ) (n : ℕ) (t : Report) → fitted s n ≡ good t → report s ≡ good t

@@ -6,8 +6,8 @@ use lib.ListN.{take}
 use Rattle.account.specs.Account.{PowerAccount}
 use Rattle.answers.specs.Answers.{good}
 use Rattle.ladder.specs.Study.{Report, report}
-use Rattle.report_check.specs.Check.{checkOf}
-use Rattle.report_check.specs.declared.Verdict.the-variants.{Pass}
+use Rattle.verdicts.specs.Check.{checkOf}
+use Rattle.verdicts.specs.declared.Verdict.the-variants.{Pass}
 
 abbrev pub PairLaw : Type 0
 PairLaw = (s : List ℕ) (t : Report) → report s ≡ good t → checkOf s (t .text) ≡ Pass

@@ -1,14 +1,14 @@
 -- How large the numbers of a solution are: its report can be written and read back. Assumes nothing.
 use mathlib.Core.Bool.{Bool, cond, false, true}
 use mathlib.Core.List.{List}
-use mathlib.Core.Path.{_≡_, refl}
+use mathlib.Core.Path.{_≡_, refl, subst, sym}
 use Prim.Native.Nat.{_+_, _<_, _≤_, suc, zero, ℕ}
 use native.Mathlib.Omega.{arith}
 use lib.Dec.{eqb}
 use lib.ListN.{getD, length}
 use Rattle.answers.specs.Answers.{good}
 use Rattle.equations.specs.Equations.{beyond, beyond3, currentBeyond, drawnPower, each, loadBeyond, loadCurrent, loadsAt, lossOf, lostPower, nearCurrent, signAt, sourcePower, voltageBeyond, voltageOn, zero3}
-use Rattle.equations.specs.Fit.{Fit, fit}
+use Rattle.equations.specs.Fit.{Fit, fit, retapped-fit}
 use Rattle.equations.specs.Limits.{drawn-within, loss-within, source-within}
 use Rattle.equations.specs.Meets.{currents-meet, takenAt, voltages-source}
 use Rattle.equations.specs.Sizes.{Within3, beyond-false, beyond3-false, spread-within, within3-plus, within3-zero}
@@ -17,6 +17,7 @@ use Rattle.feeder.specs.Feeder.{Feeder, branchAt, parent, phaseSigns, reading, 
 use Rattle.feeder.specs.FeederLaws.{sound}
 use Rattle.feeder.specs.ProperNames.{node-proper}
 use Rattle.feeder.specs.RowFacts.{Formed, formed}
+use Rattle.feeder.specs.TapLaws.{phases-same, retapped-formed}
 use Rattle.feeder.specs.declared.Three.{Three}
 use Rattle.integers.specs.Bools.{clash}
 use Rattle.integers.specs.ListLaws.{all-count, all-map, all-map2, any-false, length-tab, tab-all}
@@ -24,9 +25,11 @@ use Rattle.integers.specs.Lists.{All, any, count}
 use Rattle.integers.specs.PairLaws.{Within, within-more}
 use Rattle.integers.specs.Pairs.{_·*_, scaled}
 use Rattle.iteration.specs.Ladder.{Solution}
-use Rattle.iteration.specs.LadderLaws.{Solved}
+use Rattle.iteration.specs.LadderLaws.{Solved, solved}
 use Rattle.report.specs.RoundTrip.{Writable}
 use Rattle.text.specs.Text.{Proper}
+use Rattle.rounds.specs.Rounds.{Regulated}
+use Rattle.rounds.specs.RoundsLaws.{Ended, TapsWithin}
 
 -- what 32 and 33 say of each row
 row-false : (f : ℕ → Bool) (n : ℕ) → any f (count 1 n) ≡ false → (j : ℕ) → j < n → f (suc j) ≡ false
@@ -42,7 +45,7 @@ within3-cond : {m : ℕ} {x : Three} (c : Bool) → Within3 m x → Within3 m (c
 within3-cond true h = h
 within3-cond false h = within3-zero
 
-module _ (f : Feeder) (x : Solution) (limits : Fit f) (form : Formed f) (names : (j : ℕ) → j < suc (rowCount f) → Proper (getD (f .nodes) j 0)) (w : Solved f x) where
+module _ (f : Feeder) (x : Solution) (limits : Fit f) (form : Formed f) (names : (j : ℕ) → j < suc (rowCount f) → Proper (getD (f .nodes) j 0)) (taps : TapsWithin f f) (w : Solved f x) where
   abbrev v : List Three
   v = x .voltages
 
@@ -107,12 +110,23 @@ module _ (f : Feeder) (x : Solution) (limits : Fit f) (form : Formed f) (names :
     source = within-more source-in tt;
     drawn = within-more drawn-in tt;
     lost = within-more lost-in tt;
+    taps = taps;
     first = w .first;
     last = w .last;
     few-sweeps = limits .few-sweeps;
     few-rows = limits .few-rows;
   }
 
--- of a feeder that is read
-pub read-writable : (s : List ℕ) (f : Feeder) (x : Solution) → reading s ≡ good f → Solved f x → Writable f (x .voltages) (x .currents) (x .sweeps)
-read-writable s f x e w = solution-writable f x (fit s f e) (formed s f (sound s f e)) (node-proper s f (sound s f e)) w
+-- of a feeder that is read: the one with the taps of the last round keeps the form and the limits
+module _ (s : List ℕ) (f : Feeder) (y : Regulated) (e : reading s ≡ good f) (h : Ended f y) where
+  pub ended-formed : Formed (y .feeder)
+  ended-formed = retapped-formed f (y .feeder) (h .retapped) (h .taps) (formed s f (sound s f e))
+
+  pub ended-fit : Fit (y .feeder)
+  ended-fit = retapped-fit f (y .feeder) (h .retapped) (h .taps) ended-formed (fit s f e)
+
+  pub ended-writable : Writable (y .feeder) (y .solution .voltages) (y .solution .currents) (y .solution .sweeps)
+  ended-writable = solution-writable (y .feeder) (y .solution) ended-fit ended-formed
+      (λ j q. let n : j < suc (rowCount f) = rw (h .retapped .rows) at q in subst (λ (l : List ℕ). Proper (getD l j 0)) (sym (h .retapped .nodes)) (node-proper s f (sound s f e) j n))
+      (λ k q. let n : k < rowCount f = rw (h .retapped .rows) at q in rw (phases-same (h .retapped) (suc k)) (h .taps k n))
+      (solved (y .feeder) (y .solution) (h .solved-as))

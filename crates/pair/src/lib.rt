@@ -6,8 +6,8 @@ ghost use Rattle.pair.specs.Pair.{Passes};
 ghost use Prim.Native.Nat.{ℕ};
 use ladder::Study;
 use ladder::study_feeder;
-use report_check::Verdict;
 use report_check::check;
+use verdicts::Verdict;
 
 // The study, and then the check of what it wrote. The answer is the study's own: the check of what was written never refuses.
 pub fn study_and_check(feeder: &[u8], out: &mut [u8]) -> Study

@@ -12,11 +12,12 @@ use Rattle.answers.specs.declared.Refusal.the-variants.{ReportLayout}
 use Rattle.integers.specs.Lists.{All}
 use Rattle.report.specs.Report.{rowsJust, tableOf, tableText}
 use Rattle.text.specs.LineText.{line-more}
-use Rattle.text.specs.Lines.{Row, rowText, text, Readable}
+use Rattle.text.specs.Lines.{Readable, Row, rowText, text}
 use Rattle.text.specs.NameText.{letters-8}
+use Rattle.integers.specs.ListLaws.{all-map}
 use Rattle.text.specs.NumberText.{decimal-19}
 use Rattle.text.specs.RowText.{past, row-back, text-back}
-use Rattle.text.specs.Text.{bytes, decimal, joined, letters, line, Small}
+use Rattle.text.specs.Text.{bytes, decimal, joined, letters, line}
 
 -- ---- rows one behind the other: g x is what was written for x, the line of the row h x
 pub record WrittenAs {X : Type 0} (g : X → List ℕ) (h : X → Row) (m n : ℕ) (x : X) : Type 0 where
@@ -24,7 +25,7 @@ pub record WrittenAs {X : Type 0} (g : X → List ℕ) (h : X → Row) (m n : �
   pub readable : Readable m n (h x)
 
 module _ {X : Type 0} (g : X → List ℕ) (h : X → Row) (m n : ℕ) where
-  rows-back : (l : List X) → All (WrittenAs g h m n) l → (s : List ℕ) (at : ℕ) (t : List ℕ) → drop at s ≡ joined g l ++ t → rowsJust (length l) m n s at ≡ good (map h l, at + length (joined g l))
+  pub rows-back : (l : List X) → All (WrittenAs g h m n) l → (s : List ℕ) (at : ℕ) (t : List ℕ) → drop at s ≡ joined g l ++ t → rowsJust (length l) m n s at ≡ good (map h l, at + length (joined g l))
   unfolding joined rowsJust
   rows-back [] a s at t e = ap (λ (p : ℕ). good ([], p)) (omega arith)
   rows-back (x ∷ l) a s at t e =
@@ -46,10 +47,11 @@ module _ {X : Type 0} (g : X → List ℕ) (h : X → Row) (m n : ℕ) where
       (ap (λ (q : ℕ). good (map h l, q)) (simp length-append (omega arith)))
 
 -- ---- lengths
-numbers-short : (z : ℤ) (zs : List ℤ) → All Small (z ∷ zs) → length (line (map decimal (z ∷ zs))) ≤ 20 * suc (length zs)
+-- numbers of at most b bytes each
+numbers-short : (b : ℕ) (z : ℤ) (zs : List ℤ) → All (λ y. length (decimal y) ≤ b) (z ∷ zs) → length (line (map decimal (z ∷ zs))) ≤ suc (length zs) * suc b
 unfolding line
-numbers-short z [] h = simp length-append (omega (arith, decimal-19 z (h .0)))
-numbers-short z (y ∷ ys) h = simp length-append (omega (arith, decimal-19 z (h .0), numbers-short y ys (h .1)))
+numbers-short b z [] h = simp length-append (omega (arith, h .0))
+numbers-short b z (y ∷ ys) h = simp length-append (omega (arith, h .0, numbers-short b y ys (h .1), suc-mul (suc (length ys)) (suc b)))
 
 names-short : (ws : List ℕ) (l : List (List ℕ)) → 0 < length l → length (line (map (letters 8) ws ++ l)) ≤ 9 * length ws + length (line l)
 names-short [] l q = omega arith
@@ -57,13 +59,17 @@ names-short (w ∷ ws) l q =
     let m : List (List ℕ) = map (letters 8) ws ++ l in
     omega (arith, ap length (line-more (letters 8 w) m (simp length-append (omega arith))), length-append (letters 8 w) (44 ∷ line m), letters-8 w, names-short ws l q)
 
-pub row-short : {m n : ℕ} (x : Row) → Readable m n x → length (rowText x) ≤ 9 * m + 20 * n
+pub row-short-by : {m n : ℕ} (b : ℕ) (x : Row) → Readable m n x → All (λ y. length (decimal y) ≤ b) (x .values) → length (rowText x) ≤ 9 * m + n * suc b
 unfolding rowText
-row-short {m} {n} x h = go (x .values) (h .small) (h .values-are)
+row-short-by {m} {n} b x h k = go (x .values) k (h .values-are)
   where
-    go : (zs : List ℤ) → All Small zs → length zs ≡ n → length (line (map (letters 8) (x .words) ++ map decimal zs)) ≤ 9 * m + 20 * n
+    go : (zs : List ℤ) → All (λ y. length (decimal y) ≤ b) zs → length zs ≡ n → length (line (map (letters 8) (x .words) ++ map decimal zs)) ≤ 9 * m + n * suc b
     go [] a c = absurd (omega (arith, h .some))
-    go (z ∷ zs) a c = omega (arith, names-short (x .words) (map decimal (z ∷ zs)) (omega arith), numbers-short z zs a, h .words-are, c)
+    go (z ∷ zs) a c = rw (← c) (omega (arith, names-short (x .words) (map decimal (z ∷ zs)) (omega arith), numbers-short b z zs a, h .words-are))
+
+-- any number that can be read has at most 19 bytes
+pub row-short : {m n : ℕ} (x : Row) → Readable m n x → length (rowText x) ≤ 9 * m + n * 20
+row-short x h = row-short-by 19 x h (all-map (x .values) (λ z s. decimal-19 z s) (h .small))
 
 pub rows-short : {X : Type 0} (g : X → List ℕ) (b : ℕ) (l : List X) → All (λ x. length (g x) ≤ b) l → length (joined g l) ≤ length l * b
 unfolding joined

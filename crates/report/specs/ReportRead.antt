@@ -5,18 +5,16 @@ use mathlib.Core.Path.{_∙_, _≡_, ap, refl, subst, sym}
 use Prim.Native.Nat.{suc, zero, ℕ}
 use Prim.Native.String.{String}
 use native.Mathlib.Omega.{arith}
-use lib.IntN.{pos}
-use lib.ListN.{drop, length, length-drop, take}
+use lib.ListN.{drop, length, length-drop}
 use borrow.Author.Tests.{eqb-true}
 use Rattle.answers.specs.AnswerLaws.{bound, not-if, same-good}
 use Rattle.answers.specs.Answers.{good}
 use Rattle.answers.specs.declared.Refusal.the-variants.{ReportLayout}
-use Rattle.feeder.specs.Feeder.{Feeder, between, rowCount}
+use Rattle.feeder.specs.Feeder.{Feeder, regulators, rowCount}
 use Rattle.feeder.specs.Layout.{fileEnd}
-use Rattle.integers.specs.Lists.{all}
-use Rattle.integers.specs.Pairs.{inside}
-use Rattle.report.specs.Report.{Reported, branchHeader, lastRow, nodeHeader, reportOf, reportedText, rowsJust, tableOf, tableText, totalsHeader}
-use Rattle.text.specs.Lines.{Placed, Row, nth, row, rowText, text}
+use Rattle.report.specs.Report.{Reported, branchHeader, filedText, nodeHeader, reportOf, reportedText, rowsJust, tableOf, tableText, tapHeader, tapRows, tapTable, totalsHeader, totalsRow}
+use Rattle.report.specs.ReportRows.{TapsRead, report-parts, taps-read}
+use Rattle.text.specs.Lines.{Placed, Readable, Row, row, rowText, text}
 use Rattle.text.specs.RowText.{row-read, text-read}
 use Rattle.text.specs.Text.{bytes, decimal, joined, line}
 
@@ -48,7 +46,7 @@ table-read header k m n s l p e =
     ∙ ap (λ (z : List ℕ). joined rowText y ++ z) (text-read ReportLayout "\n" s (b .value .1) (c .value) (c .came))) in
     subst (λ (z : Placed (List Row)). s ≡ tableText rowText header (z .0) ++ drop (z .1) s) (same-good (y, c .value) (l, p) (c .rest)) (t ∙ simp append-assoc)
 
--- no name stands in the last row, and nothing behind it
+-- an empty list, and nothing behind a place
 none : {X : Type 0} (l : List X) → length l ≡ 0 → l ≡ []
 none [] e = refl
 none (x ∷ l) e = absurd (omega arith)
@@ -60,45 +58,61 @@ ended s p e = let q = eqb-true p (length s) (not-no (fileEnd s p) e) in none (dr
     not-no true e = refl
     not-no false e = sym e
 
-last-read : (s : List ℕ) (x : Row) → lastRow s ≡ good x → s ≡ bytes totalsHeader ++ line (map decimal (x .values))
-unfolding lastRow rowText
-last-read s x e =
-    let a = bound (text ReportLayout totalsHeader s 0) _ x e in
-    let b = bound (row ReportLayout 0 7 s (a .value)) _ x (a .rest) in
-    let y : Row = b .value .0 in
-    let q : ℕ = b .value .1 in
-    let c = not-if (not (fileEnd s q)) ReportLayout (good y) x (b .rest) in
-    let h = row-read ReportLayout 0 6 s (a .value) y q (b .came) in
-    let w : y .words ≡ [] = none (y .words) (h .readable .words-are) in
-    let n : drop q s ≡ [] = ended s q (c .0) in
-    let t : s ≡ bytes totalsHeader ++ line (map decimal (y .values))
-    = text-read ReportLayout totalsHeader s 0 (a .value) (a .came)
-    ∙ ap (λ (z : List ℕ). bytes totalsHeader ++ z) (h .stand ∙ (λ i. rowText (record { words = w i; values = y .values }) ++ n i) ∙ append-nil (line (map decimal (y .values)))) in
-    subst (λ (z : Row). s ≡ bytes totalsHeader ++ line (map decimal (z .values))) (same-good y x (c .1)) t
+-- a row of numbers alone
+pub numbers-row : (n : ℕ) (x : Row) → Readable 0 n x → rowText x ≡ line (map decimal (x .values))
+unfolding rowText
+numbers-row n x h = let w : x .words ≡ [] = none (x .words) (h .words-are) in (λ i. rowText (record { words = w i; values = x .values }))
+
+-- the totals, and what stands behind them
+totals-read : (s : List ℕ) (x : Row) (q : ℕ) → totalsRow s ≡ good (x, q) → s ≡ bytes totalsHeader ++ (line (map decimal (x .values)) ++ drop q s)
+unfolding totalsRow
+totals-read s x q e =
+    let a = bound (text ReportLayout totalsHeader s 0) _ (x, q) e in
+    let h = row-read ReportLayout 0 6 s (a .value) x q (a .rest) in
+    text-read ReportLayout totalsHeader s 0 (a .value) (a .came)
+    ∙ ap (λ (z : List ℕ). bytes totalsHeader ++ z) (h .stand ∙ ap (λ (z : List ℕ). z ++ drop q s) (numbers-row 7 x (h .readable)))
+
+-- the last table, with nothing behind it
+tap-table-read : (k : ℕ) (s : List ℕ) (l : List Row) → tapTable k s ≡ good l → s ≡ bytes tapHeader ++ joined rowText l
+unfolding tapTable
+tap-table-read k s l e =
+    let a = bound (text ReportLayout tapHeader s 0) _ l e in
+    let b = bound (rowsJust k 1 3 s (a .value)) _ l (a .rest) in
+    let y : List Row = b .value .0 in
+    let c = not-if (not (fileEnd s (b .value .1))) ReportLayout (good y) l (b .rest) in
+    let t : s ≡ bytes tapHeader ++ joined rowText y
+    = text-read ReportLayout tapHeader s 0 (a .value) (a .came)
+    ∙ ap (λ (z : List ℕ). bytes tapHeader ++ z) (rows-read k 1 2 s (a .value) y (b .value .1) (b .came) ∙ ap (λ (z : List ℕ). joined rowText y ++ z) (ended s (b .value .1) (c .0)) ∙ append-nil (joined rowText y)) in
+    subst (λ (z : List Row). s ≡ bytes tapHeader ++ joined rowText z) (same-good y l (c .1)) t
+
+-- what stands behind the totals
+last-read : (f : Feeder) (s : List ℕ) (at : ℕ) (l : List Row) → tapRows f s at ≡ good l → drop at s ≡ filedText (not (fileEnd s at)) l
+last-read f s at l e = go (not (fileEnd s at)) refl (taps-read f s at l e)
+  where
+    go : (c : Bool) → not (fileEnd s at) ≡ c → TapsRead f s at (not (fileEnd s at)) l → drop at s ≡ filedText c l
+    go true z w =
+        let t = w .table z in
+        text-read ReportLayout "\n" s at (t .0) (t .1 .0) ∙ ap (λ (y : List ℕ). bytes "\n" ++ y) (tap-table-read (length (regulators f)) (drop (t .0) s) l (t .1 .1))
+    go false z w = ended s at z
 
 -- a report that is read is just the text of its names and numbers: no other text is read as these
 pub report-is : (f : Feeder) (s : List ℕ) (r : Reported) → reportOf f s ≡ good r → s ≡ reportedText r
-unfolding reportOf reportedText
+unfolding reportedText
 report-is f s r e =
-    let a = bound (tableOf nodeHeader (suc (rowCount f)) 1 6 s) _ r e in
-    let t : List ℕ = drop (a .value .1) s in
-    let b = bound (tableOf branchHeader (rowCount f) 2 8 t) _ r (a .rest) in
-    let u : List ℕ = drop (b .value .1) t in
-    let c = bound (lastRow u) _ r (b .rest) in
-    let made : Reported = record { nodes = a .value .0; branches = b .value .0; totals = c .value .values } in
-    let h = not-if (not (all (λ x. all (inside 2000000) (x .values)) (a .value .0))) ReportLayout _ r (c .rest) in
-    let k = not-if (not (all (λ x. all (inside 2000000) (take 6 (x .values))) (b .value .0))) ReportLayout _ r (h .1) in
-    let l = not-if (not (between (pos 1) (pos (f .limit)) (nth (c .value .values) 1))) ReportLayout (good made) r (k .1) in
-    let w : s ≡ reportedText made
-    = table-read nodeHeader (suc (rowCount f)) 1 5 s (a .value .0) (a .value .1) (a .came)
-    ∙ ap (λ (z : List ℕ). tableText rowText nodeHeader (a .value .0) ++ z) (table-read branchHeader (rowCount f) 2 7 t (b .value .0) (b .value .1) (b .came)
-    ∙ ap (λ (z : List ℕ). tableText rowText branchHeader (b .value .0) ++ z) (last-read u (c .value) (c .came))) in
-    subst (λ (z : Reported). s ≡ reportedText z) (same-good made r (l .1)) w
+    let w = report-parts f s r e in
+    let t : List ℕ = drop (w .behind-nodes) s in
+    let u : List ℕ = drop (w .behind-branches) t in
+    let last : drop (w .behind-totals) u ≡ filedText (r .filed) (r .taps) = last-read f u (w .behind-totals) (r .taps) (w .taps) ∙ ap (λ c. filedText c (r .taps)) (w .filed-is) in
+    table-read nodeHeader (suc (rowCount f)) 1 5 s (r .nodes) (w .behind-nodes) (w .nodes)
+    ∙ ap (λ (z : List ℕ). tableText rowText nodeHeader (r .nodes) ++ z) (table-read branchHeader (rowCount f) 2 7 t (r .branches) (w .behind-branches) (w .branches)
+    ∙ ap (λ (z : List ℕ). tableText rowText branchHeader (r .branches) ++ z) (totals-read u (w .totals-row) (w .behind-totals) (w .totals)
+    ∙ (λ i. bytes totalsHeader ++ (line (map decimal (w .totals-are i)) ++ last i))))
 
 -- two reports with the same names and numbers are the same bytes, also where they are read for two feeders
 pub same-report : (f g : Feeder) (s t : List ℕ) (r : Reported) → reportOf f s ≡ good r → reportOf g t ≡ good r → s ≡ t
 same-report f g s t r a b = report-is f s r a ∙ sym (report-is g t r b)
 
--- and so are two whose rows of nodes, rows of branches and totals agree one by one
-pub same-tables : (f g : Feeder) (s t : List ℕ) (r q : Reported) → reportOf f s ≡ good r → reportOf g t ≡ good q → r .nodes ≡ q .nodes → r .branches ≡ q .branches → r .totals ≡ q .totals → s ≡ t
-same-tables f g s t r q a b n l m = report-is f s r a ∙ (λ i. reportedText (record { nodes = n i; branches = l i; totals = m i })) ∙ sym (report-is g t q b)
+-- and so are two whose rows of nodes, rows of branches, totals and rows of taps agree one by one, both with the last table or both without
+pub same-tables : (f g : Feeder) (s t : List ℕ) (r q : Reported) → reportOf f s ≡ good r → reportOf g t ≡ good q
+    → r .nodes ≡ q .nodes → r .branches ≡ q .branches → r .totals ≡ q .totals → r .filed ≡ q .filed → r .taps ≡ q .taps → s ≡ t
+same-tables f g s t r q a b n l m c u = report-is f s r a ∙ (λ i. reportedText (record { nodes = n i; branches = l i; totals = m i; filed = c i; taps = u i })) ∙ sym (report-is g t q b)

@@ -1,31 +1,40 @@
 -- The report's text is read back as the rows that were written, it is not too long, and its rows hold the names, voltages, currents, losses and totals. Assumes nothing.
-use mathlib.Core.Bool.{false, true}
-use mathlib.Core.List.{List, [], _++_, _∷_, append-nil, map}
+use mathlib.Core.Bool.{Bool, cond, false, true}
+use mathlib.Core.List.{List, [], _++_, _∷_, append-assoc, append-nil, map}
 use mathlib.Core.Path.{_∙_, _≡_, ap, refl, sym}
+use Prim.Native.String.{String}
 use Prim.Native.Nat.{_*_, _+_, _<_, _≤_, suc, zero, ℕ}
 use native.Mathlib.Omega.{arith}
 use lib.Dec.{eqb}
-use lib.IntN.{pos, ℤ}
-use lib.ListN.{drop, getD, length, length-append, length-map, take}
+use lib.IntN.{natAbs, pos, ℤ}
+use lib.ListN.{drop, getD, length, length-append, length-drop, length-map, take}
 use lib.Seq.{drop-append-seam, ext-getD}
-use borrow.Author.Tests.{eq-eqb, le-leb, le-ltb}
+use borrow.Author.Tests.{eq-eqb, le-leb, le-ltb, ne-eqb}
 use Rattle.answers.specs.Answers.{good}
 use Rattle.answers.specs.declared.Refusal.the-variants.{ReportLayout}
 use Rattle.equations.specs.Equations.{drawnPower, lossOf, lostPower, sourcePower, zero3}
 use Rattle.equations.specs.Sizes.{Within3}
-use Rattle.feeder.specs.Feeder.{Feeder, between, pairAt, parent, rowCount, rowsOf, threeAt, tooLong}
+use Rattle.feeder.specs.Feeder.{Feeder, between, branchAt, has, pairAt, parent, regulates, regulators, rowCount, rowsOf, tapAt, tapsOn, threeAt, tooLong}
+use Rattle.feeder.specs.RowLaws.{true-each}
+use Rattle.feeder.specs.TapLaws.{Retapped, TapsIn, all-chosen, few-regulators, phases-same, regulators-same}
+use Rattle.feeder.specs.declared.Phase.{Phase}
+use Rattle.feeder.specs.declared.Phase.the-variants.{A, B, C}
+use Rattle.feeder.specs.declared.Phases.{Phases}
+use Rattle.feeder.specs.declared.Taps.{Taps}
 use Rattle.feeder.specs.declared.Three.{Three}
 use Rattle.integers.specs.Bools.{joined as and-true}
 use Rattle.integers.specs.ListLaws.{all-count, all-image, getD-map, getD-tab, length-tab, true-all}
-use Rattle.integers.specs.Lists.{all, count, tab, All}
+use Rattle.integers.specs.Lists.{All, all, count, tab}
 use Rattle.integers.specs.PairLaws.{Within, within-more}
 use Rattle.integers.specs.Pairs.{0c, inside}
 use Rattle.integers.specs.declared.Pair.{Pair}
-use Rattle.report.specs.LinesBack.{WrittenAs, row-short, rows-short, table-back}
-use Rattle.report.specs.Report.{Reported, branchHeader, branchLine, branchesText, lastRow, nameText, nodeHeader, nodeLine, nodesText, reportOf, reportText, reportedCurrents, reportedDrawn, reportedLosses, reportedLost, reportedSource, reportedVoltages, tableOf, totalsHeader, totalsLine, totalsText}
-use Rattle.text.specs.Lines.{Row, nth, rowText, Readable}
+use Rattle.report.specs.LinesBack.{WrittenAs, row-short, row-short-by, rows-back, rows-short, table-back}
+use Rattle.report.specs.Report.{Reported, branchHeader, branchLine, branchesText, nameText, noRow, nodeHeader, nodeLine, nodesText, reportOf, reportText, reportedCurrents, reportedDrawn, reportedLosses, reportedLost, reportedSource, reportedVoltages, tableOf, tapHeader, tapLine, tapRow, tapRows, tapTable, tapsFit, tapsGiven, tapsText, totalsHeader, totalsLine, totalsRow, totalsText, withReported}
+use Rattle.text.specs.Lines.{Readable, Row, nth, rowText}
 use Rattle.text.specs.RowText.{past, row-back, text-back}
-use Rattle.text.specs.Text.{bytes, joined, Small, Proper}
+use Rattle.text.specs.Text.{Proper, Small, bytes, decimal, joined}
+use Rattle.report.specs.ReportTaps.{given-rows, rows-feeder}
+use Rattle.text.specs.NumberText.{decimal-short}
 
 -- ---- the rows
 abbrev pub values2 : Pair → List ℤ
@@ -44,9 +53,9 @@ unfoldable pub rowOfTotals : Feeder → List Three → List Three → ℕ → Ro
 rowOfTotals f v i k = record { words = []; values = pos k ∷ values2 (sourcePower f i) ++ (values2 (drawnPower f v) ++ values2 (lostPower f i)) }
 
 unfoldable pub reportRows : Feeder → List Three → List Three → ℕ → Reported
-reportRows f v i k = record { nodes = map (rowOfNode f v) (0 ∷ rowsOf f); branches = map (rowOfBranch f i) (rowsOf f); totals = rowOfTotals f v i k .values }
+reportRows f v i k = record { nodes = map (rowOfNode f v) (0 ∷ rowsOf f); branches = map (rowOfBranch f i) (rowsOf f); totals = rowOfTotals f v i k .values; filed = true; taps = map (tapRow f) (regulators f) }
 
--- what has to be known of a solution, so that its report can be read: names, voltages and currents within their limit, losses and totals of at most 18 digits
+-- what has to be known of a solution, so that its report can be read: names, voltages, currents and taps within their limits, losses and totals of at most 18 digits
 pub record Writable (f : Feeder) (v i : List Three) (k : ℕ) : Type 0 where
   pub names : (j : ℕ) → j < suc (rowCount f) → Proper (getD (f .nodes) j 0)
   pub parents : (j : ℕ) → j < suc (rowCount f) → parent f j < suc (rowCount f)
@@ -56,6 +65,7 @@ pub record Writable (f : Feeder) (v i : List Three) (k : ℕ) : Type 0 where
   pub source : Within 999999999999999999 (sourcePower f i)
   pub drawn : Within 999999999999999999 (drawnPower f v)
   pub lost : Within 999999999999999999 (lostPower f i)
+  pub taps : (j : ℕ) → j < rowCount f → TapsIn (branchAt f (suc j) .phases) (tapsOn (branchAt f (suc j) .device))
   pub first : 1 ≤ k
   pub last : k ≤ f .limit
   pub few-sweeps : f .limit ≤ 100
@@ -116,15 +126,37 @@ module _ (f : Feeder) (v i : List Three) (k : ℕ) (w : Writable f v i k) where
   unfolding totalsLine rowOfTotals rowText
   totals-written = refl
 
+  tap-written : (j : ℕ) → j < rowCount f → WrittenAs (tapLine f) (tapRow f) 1 3 (suc j)
+  unfolding tapLine nameText tapRow rowText
+  tap-written j q =
+      let t = w .taps j q in
+      record {
+        text = refl;
+        readable = record {
+          proper = (w .names (suc j) (omega arith), tt);
+          small = (omega (arith, t .small A), (omega (arith, t .small B), (omega (arith, t .small C), tt)));
+          words-are = refl;
+          values-are = refl;
+          some = omega arith;
+        };
+      }
+
   nodes-written : All (WrittenAs (nodeLine f v) (rowOfNode f v) 1 6) (0 ∷ rowsOf f)
   nodes-written = (node-written 0 (omega arith), all-count _ 1 (rowCount f) (λ j q. node-written (1 + j) (omega arith)))
 
   branches-written : All (WrittenAs (branchLine f i) (rowOfBranch f i) 2 8) (rowsOf f)
   branches-written = all-count _ 1 (rowCount f) (λ j q. let z : 1 + j ≡ suc j = omega arith in rw z (branch-written j q))
 
-  -- ---- the three tables
+  taps-written : All (WrittenAs (tapLine f) (tapRow f) 1 3) (regulators f)
+  unfolding regulators
+  taps-written = all-chosen (WrittenAs (tapLine f) (tapRow f) 1 3) (λ j. regulates (branchAt f j .device)) (rowsOf f) (all-count _ 1 (rowCount f) (λ j q e. let z : 1 + j ≡ suc j = omega arith in rw z (tap-written j q)))
+
+  -- ---- the four tables
+  abbrev last : List ℕ
+  last = totalsText f v i k ++ tapsText f
+
   abbrev rest : List ℕ
-  rest = branchesText f i ++ totalsText f v i k
+  rest = branchesText f i ++ last
 
   nodes-back : tableOf nodeHeader (suc (rowCount f)) 1 6 (nodesText f v ++ rest) ≡ good (map (rowOfNode f v) (0 ∷ rowsOf f), length (nodesText f v))
   unfolding nodesText count
@@ -132,18 +164,33 @@ module _ (f : Feeder) (v i : List Three) (k : ℕ) (w : Writable f v i k) where
 
   branches-back : tableOf branchHeader (rowCount f) 2 8 rest ≡ good (map (rowOfBranch f i) (rowsOf f), length (branchesText f i))
   unfolding branchesText count
-  branches-back = rw (length-tab (λ (j : ℕ). j) 1 (rowCount f)) at (table-back (branchLine f i) (rowOfBranch f i) 2 8 branchHeader (rowsOf f) branches-written (totalsText f v i k))
+  branches-back = rw (length-tab (λ (j : ℕ). j) 1 (rowCount f)) at (table-back (branchLine f i) (rowOfBranch f i) 2 8 branchHeader (rowsOf f) branches-written last)
 
-  totals-back : lastRow (totalsText f v i k) ≡ good (rowOfTotals f v i k)
-  unfolding lastRow totalsText
+  abbrev behind : ℕ
+  behind = 0 + length (bytes totalsHeader) + length (rowText (rowOfTotals f v i k))
+
+  after-header : drop (0 + length (bytes totalsHeader)) last ≡ rowText (rowOfTotals f v i k) ++ (bytes "\n" ++ tapsText f)
+  unfolding totalsText
+  after-header = past last 0 (bytes totalsHeader) (rowText (rowOfTotals f v i k) ++ (bytes "\n" ++ tapsText f)) (simp (append-assoc, totals-written))
+
+  after-totals : drop behind last ≡ bytes "\n" ++ tapsText f
+  after-totals = past last (0 + length (bytes totalsHeader)) (rowText (rowOfTotals f v i k)) (bytes "\n" ++ tapsText f) after-header
+
+  totals-back : totalsRow last ≡ good (rowOfTotals f v i k, behind)
+  unfolding totalsRow totalsText
   totals-back =
-      let x : Row = rowOfTotals f v i k in
-      let s : List ℕ = bytes totalsHeader ++ totalsLine f v i k in
-      let p : ℕ = 0 + length (bytes totalsHeader) in
-      let d : drop p s ≡ rowText x ++ [] = past s 0 (bytes totalsHeader) (totalsLine f v i k) refl ∙ totals-written ∙ sym (append-nil (rowText x)) in
-      let e : length s ≡ length (bytes totalsHeader) + length (totalsLine f v i k) = length-append (bytes totalsHeader) (totalsLine f v i k) in
-      let n : eqb (p + length (rowText x)) (length s) ≡ true = eq-eqb (p + length (rowText x)) (length s) (omega (arith, ap length totals-written)) in
-      simp (text-back ReportLayout totalsHeader s 0 (totalsLine f v i k) refl, row-back ReportLayout 0 7 x totals-readable s p [] d, n)
+      let h : String = totalsHeader in
+      simp (text-back ReportLayout h last 0 (totalsLine f v i k ++ bytes "\n" ++ tapsText f) (simp append-assoc), row-back ReportLayout 0 7 (rowOfTotals f v i k) totals-readable last (0 + length (bytes h)) (bytes "\n" ++ tapsText f) after-header)
+
+  tap-table-back : tapTable (length (regulators f)) (tapsText f) ≡ good (map (tapRow f) (regulators f))
+  unfolding tapTable tapsText
+  tap-table-back =
+      let h : String = tapHeader in
+      let s : List ℕ = bytes h ++ joined (tapLine f) (regulators f) in
+      let p : ℕ = 0 + length (bytes h) in
+      let d : drop p s ≡ joined (tapLine f) (regulators f) ++ [] = past s 0 (bytes h) (joined (tapLine f) (regulators f)) refl ∙ sym (append-nil (joined (tapLine f) (regulators f))) in
+      let n : eqb (p + length (joined (tapLine f) (regulators f))) (length s) ≡ true = eq-eqb (p + length (joined (tapLine f) (regulators f))) (length s) (omega (arith, length-append (bytes h) (joined (tapLine f) (regulators f)))) in
+      simp (text-back ReportLayout h s 0 (joined (tapLine f) (regulators f)) refl, rows-back (tapLine f) (tapRow f) 1 3 (regulators f) taps-written s p [] d, n)
 
   -- ---- the limits of 50
   nodes-in : all (λ r. all (inside 2000000) (r .values)) (map (rowOfNode f v) (0 ∷ rowsOf f)) ≡ true
@@ -160,32 +207,92 @@ module _ (f : Feeder) (v i : List Three) (k : ℕ) (w : Writable f v i k) where
   unfolding rowOfTotals
   sweeps-in = and-true (le-leb 1 k (w .first)) (le-leb k (f .limit) (w .last))
 
-  pub report-read : reportOf f (reportText f v i k) ≡ good (reportRows f v i k)
-  unfolding reportOf reportText reportRows
-  report-read = rw (nodes-back, drop-append-seam (nodesText f v) rest, branches-back, drop-append-seam (branchesText f i) (totalsText f v i k), totals-back, nodes-in, branches-in, sweeps-in)
+  -- ---- 9: 201 node lines of at most 63 bytes, 200 branch lines of at most 178, 200 tap lines of at most 21
+  number-short : (z : ℤ) → natAbs z ≤ 2000000 → length (decimal z) ≤ 8
+  number-short z h = decimal-short 6 z (omega arith)
 
-  -- ---- 9: 201 node lines of at most 129 bytes, 200 branch lines of at most 178
-  node-short : (j : ℕ) → j < suc (rowCount f) → length (nodeLine f v j) ≤ 129
-  node-short j q = let e = node-written j q in rw (e .text) (row-short (rowOfNode f v j) (e .readable))
+  tap-short : (z : ℤ) → natAbs z ≤ 16 → length (decimal z) ≤ 3
+  tap-short z h = decimal-short 1 z (omega arith)
+
+  node-short : (j : ℕ) → j < suc (rowCount f) → length (nodeLine f v j) ≤ 63
+  unfolding rowOfNode
+  node-short j q =
+      let e = node-written j q in
+      let x = w .voltages j q in
+      rw (e .text) (row-short-by 8 (rowOfNode f v j) (e .readable) (number-short _ (x .a .re), (number-short _ (x .a .im), (number-short _ (x .b .re), (number-short _ (x .b .im), (number-short _ (x .c .re), (number-short _ (x .c .im), tt)))))))
 
   branch-short : (j : ℕ) → j < rowCount f → length (branchLine f i (suc j)) ≤ 178
   branch-short j q = let e = branch-written j q in rw (e .text) (row-short (rowOfBranch f i (suc j)) (e .readable))
 
+  tap-line-short : (j : ℕ) → j < rowCount f → length (tapLine f (suc j)) ≤ 21
+  unfolding tapRow
+  tap-line-short j q =
+      let e = tap-written j q in
+      let t = w .taps j q in
+      rw (e .text) (row-short-by 3 (tapRow f (suc j)) (e .readable) (tap-short _ (t .small A), (tap-short _ (t .small B), (tap-short _ (t .small C), tt))))
+
   pub report-short : tooLong (reportText f v i k) ≡ false
-  unfolding reportText nodesText branchesText totalsText bytes count
+  unfolding reportText nodesText branchesText totalsText tapsText bytes count regulators
   report-short =
       let n : length (count 1 (rowCount f)) ≡ rowCount f = length-tab (λ (j : ℕ). j) 1 (rowCount f) in
-      let a : length (joined (nodeLine f v) (0 ∷ rowsOf f)) ≤ suc (length (rowsOf f)) * 129 = rows-short (nodeLine f v) 129 (0 ∷ rowsOf f)
-      (node-short 0 (omega arith), all-count (λ j. length (nodeLine f v j) ≤ 129) 1 (rowCount f) (λ j q. node-short (1 + j) (omega arith))) in
+      let a : length (joined (nodeLine f v) (0 ∷ rowsOf f)) ≤ suc (length (rowsOf f)) * 63 = rows-short (nodeLine f v) 63 (0 ∷ rowsOf f)
+      (node-short 0 (omega arith), all-count (λ j. length (nodeLine f v j) ≤ 63) 1 (rowCount f) (λ j q. node-short (1 + j) (omega arith))) in
       let b : length (joined (branchLine f i) (rowsOf f)) ≤ length (rowsOf f) * 178 = rows-short (branchLine f i) 178 (rowsOf f)
       (all-count (λ j. length (branchLine f i j) ≤ 178) 1 (rowCount f) (λ j q. let z : 1 + j ≡ suc j = omega arith in rw z (branch-short j q))) in
       let c : length (totalsLine f v i k) ≤ 140 = rw totals-written (row-short (rowOfTotals f v i k) totals-readable) in
-      le-ltb 65536 (length (reportText f v i k)) (simp length-append (omega (arith, w .few-rows)))
+      let d : length (joined (tapLine f) (regulators f)) ≤ length (regulators f) * 21 = rows-short (tapLine f) 21 (regulators f)
+      (all-chosen (λ j. length (tapLine f j) ≤ 21) (λ j. regulates (branchAt f j .device)) (rowsOf f) (all-count _ 1 (rowCount f) (λ j q e. let z : 1 + j ≡ suc j = omega arith in rw z (tap-line-short j q)))) in
+      le-ltb 65536 (length (reportText f v i k)) (simp length-append (omega (arith, w .few-rows, few-regulators f)))
+
+-- ---- the report of f, read by a feeder that f is with other taps
+in-fits : {f : Phases} {t : Taps} → TapsIn f t → tapsFit f t ≡ true
+unfolding tapsFit inside
+in-fits {f} {t} h = true-each _ (λ p. and-true (le-leb _ _ (h .small p)) (go p (has f p) (h .off p)))
+  where
+    go : (p : Phase) (c : Bool) → (c ≡ false → tapAt t p ≡ pos 0) → cond c true (inside 0 (tapAt t p)) ≡ true
+    go p true k = refl
+    go p false k = rw (k refl)
+
+one-byte : length (bytes "\n") ≡ 1
+unfolding bytes
+one-byte = refl
+
+module _ (e f : Feeder) (h : Retapped e f) (v i : List Three) (k : ℕ) (w : Writable f v i k) where
+  -- the table of the taps stands, and is read
+  there : eqb (behind f v i k w) (length (last f v i k w)) ≡ false
+  there = ne-eqb (behind f v i k w) (length (last f v i k w))
+      (λ z. omega (arith, length-drop (behind f v i k w) (last f v i k w), ap length (after-totals f v i k w), length-append (bytes "\n") (tapsText f), one-byte))
+
+  taps-back : tapRows e (last f v i k w) (behind f v i k w) ≡ good (map (tapRow f) (regulators f))
+  unfolding tapRows
+  taps-back =
+      let s : List ℕ = last f v i k w in
+      let n : ℕ = behind f v i k w in
+      let d : drop n s ≡ bytes "\n" ++ tapsText f = after-totals f v i k w in
+      let past-line : drop (n + length (bytes "\n")) s ≡ tapsText f = past s n (bytes "\n") (tapsText f) d in
+      simp (there, text-back ReportLayout "\n" s n (tapsText f) d, past-line, ← regulators-same h, tap-table-back f v i k w)
+
+  fits : all (λ j. tapsFit (branchAt e j .phases) (tapsGiven e (map (tapRow f) (regulators f)) j)) (regulators e) ≡ true
+  unfolding regulators
+  fits = true-all _ _ (all-chosen _ (λ j. regulates (branchAt e j .device)) (rowsOf e) (all-count _ 1 (rowCount e) (λ j q r. let z : 1 + j ≡ suc j = omega arith in rw z (one j q (rw z at r)))))
+    where
+      one : (j : ℕ) → j < rowCount e → regulates (branchAt e (suc j) .device) ≡ true → tapsFit (branchAt e (suc j) .phases) (tapsGiven e (map (tapRow f) (regulators f)) (suc j)) ≡ true
+      one j q r = let n : j < rowCount f = rw (h .rows) q in rw (given-rows e f h j q r, ← phases-same h (suc j)) (in-fits (w .taps j n))
+
+  -- the feeder with the taps that the report has
+  pub reported-feeder : withReported e (reportRows f v i k) ≡ f
+  unfolding reportRows
+  reported-feeder = rows-feeder e f h (reportRows f v i k) refl
+
+  pub report-read : reportOf e (reportText f v i k) ≡ good (reportRows f v i k)
+  unfolding reportOf reportText reportRows
+  report-read =
+      let nodes : tableOf nodeHeader (suc (rowCount e)) 1 6 (nodesText f v ++ rest f v i k w) ≡ good (map (rowOfNode f v) (0 ∷ rowsOf f), length (nodesText f v)) = rw (← h .rows) (nodes-back f v i k w) in
+      let branches : tableOf branchHeader (rowCount e) 2 8 (rest f v i k w) ≡ good (map (rowOfBranch f i) (rowsOf f), length (branchesText f i)) = rw (← h .rows) (branches-back f v i k w) in
+      let sweeps : between (pos 1) (pos (e .limit)) (nth (rowOfTotals f v i k .values) 1) ≡ true = rw (← h .limit) (sweeps-in f v i k w) in
+      rw (nodes, drop-append-seam (nodesText f v) (rest f v i k w), branches, drop-append-seam (branchesText f i) (last f v i k w), totals-back f v i k w, taps-back, there, nodes-in f v i k w, branches-in f v i k w, sweeps, fits)
 
 -- ---- what the rows hold
-abbrev noRow : Row
-noRow = record { words = []; values = [] }
-
 row-at : {X : Type 0} (h : ℕ → X) (k n j : ℕ) (d : X) → j < n → getD (map h (count k n)) j d ≡ h (k + j)
 unfolding count
 row-at h k n j d q = getD-map h (tab (λ i. i) k n) j 0 d (let e = length-tab (λ (i : ℕ). i) k n in omega arith) ∙ ap h (getD-tab (λ i. i) k n j 0 q)

@@ -12,21 +12,26 @@ use Rattle.answers.specs.declared.Refusal.{Refusal}
 use Rattle.answers.specs.declared.Refusal.the-variants.{CurrentBeyond, LoadBeyond, ReportLayout, TooLong, ZeroVoltage}
 use Rattle.equations.specs.Equations.{currentBeyond, loadBeyond, zeroVoltage}
 use Rattle.feeder.specs.Feeder.{Feeder, reading, tooLong}
-use Rattle.report.specs.Report.{Reported, reportOf, reportedVoltages}
-use Rattle.report_check.specs.Check.{CheckTold, checkOf, checked, compared, verdictOf}
-use Rattle.report_check.specs.CheckChain.{from30, from53}
-use Rattle.report_check.specs.Demand.{demand3}
-use Rattle.report_check.specs.ReportFaults.{CheckPoints, workedCurrents}
-use Rattle.report_check.specs.ReportPoints.{check-points}
-use Rattle.report_check.specs.declared.Verdict.{Verdict}
-use Rattle.report_check.specs.declared.Verdict.the-variants.{Fail, Pass}
+use Rattle.report.specs.Report.{Reported, reportOf, reportedVoltages, withReported}
+use Rattle.verdicts.specs.Check.{CheckTold, checkOf, checked, compared, verdictOf}
+use Rattle.verdicts.specs.CheckChain.{from30, from53, from56}
+use Rattle.verdicts.specs.Demand.{demand3}
+use Rattle.verdicts.specs.Passed.{check-told}
+use Rattle.verdicts.specs.ReportFaults.{CheckPoints, workedCurrents}
+use Rattle.verdicts.specs.ReportPoints.{check-points}
+use Rattle.verdicts.specs.declared.Verdict.{Verdict}
+use Rattle.verdicts.specs.declared.Verdict.the-variants.{Fail, Pass}
 use Rattle.report_reader.specs.Read.{ReportHeld, ReportIs, ReportRead}
 use Rattle.sweeps.specs.Sweeps.{workOf}
 use Rattle.sweeps.specs.declared.Work.the-variants.{CurrentBeyond as WorkOver, Fine as WorkFine, LoadBeyond as WorkLoad, ZeroVoltage as WorkZero}
 
+-- a report that is read: 51 to 55 for the reported taps, then 56
+unfoldable pub behind50 : Feeder → Reported → Outcome Done
+behind50 f x = compared (withReported f x) x >> from56 f x
+
 -- 50, and what follows
 unfoldable pub from50 : Feeder → List ℕ → Outcome Done
-from50 f t = reportOf f t >>= λ r. compared f r
+from50 f t = reportOf f t >>= λ r. behind50 f r
 
 -- a test that finds a line, and one that finds none
 pub fails-at : {t : Found} {n : ℕ} (r : ℕ → Refusal) (o : Outcome Done) → t ≡ At n → Fail (r n) ≡ verdictOf (refuseAt r t >> o)
@@ -76,19 +81,19 @@ module _ (f : Feeder) (x : Reported) where
   abbrev over : Bool
   over = currentBeyond f (workedCurrents f x)
 
-  pub fails30 : WorkZero ≡ workOf zero large over → Fail (ZeroVoltage 0) ≡ verdictOf (from30 f x)
+  pub fails30 : WorkZero ≡ workOf zero large over → Fail (ZeroVoltage 0) ≡ verdictOf (from30 (good done) f x)
   unfolding from30
   fails30 e = rw (is-zero zero large over e)
 
-  pub fails31 : WorkLoad ≡ workOf zero large over → Fail (LoadBeyond 0) ≡ verdictOf (from30 f x)
+  pub fails31 : WorkLoad ≡ workOf zero large over → Fail (LoadBeyond 0) ≡ verdictOf (from30 (good done) f x)
   unfolding from30
   fails31 e = let w = is-load zero large over e in rw (w .0, w .1)
 
-  pub fails32 : WorkOver ≡ workOf zero large over → Fail (CurrentBeyond 0) ≡ verdictOf (from30 f x)
+  pub fails32 : WorkOver ≡ workOf zero large over → Fail (CurrentBeyond 0) ≡ verdictOf (from30 (good done) f x)
   unfolding from30
   fails32 e = let w = is-over zero large over e in rw (w .0, w .1 .0, w .1 .1)
 
-  pub goes30 : {v : Verdict} → WorkFine ≡ workOf zero large over → v ≡ verdictOf (from53 f x) → v ≡ verdictOf (from30 f x)
+  pub goes30 : {v : Verdict} → WorkFine ≡ workOf zero large over → v ≡ verdictOf (from53 (good done) f x) → v ≡ verdictOf (from30 (good done) f x)
   unfolding from30
   goes30 e h = let w = is-fine zero large over e in rw (w .0, w .1 .0, w .1 .1) h
 
@@ -110,9 +115,18 @@ pub refused50 : (f : Feeder) (t : List ℕ) → reportOf f t ≡ refused ReportL
 unfolding from50
 refused50 f t e = rw e
 
-pub goes50 : {v : Verdict} (f : Feeder) (t : List ℕ) (x : Reported) → reportOf f t ≡ good x → v ≡ verdictOf (compared f x) → v ≡ verdictOf (from50 f t)
+pub goes50 : {v : Verdict} (f : Feeder) (t : List ℕ) (x : Reported) → reportOf f t ≡ good x → v ≡ verdictOf (behind50 f x) → v ≡ verdictOf (from50 f t)
 unfolding from50
 goes50 f t x e h = rw e h
+
+-- ---- 56 comes behind a pass of all the others
+pub fails-before : {v : Verdict} {y : Refusal} (o last : Outcome Done) → v ≡ verdictOf o → v ≡ Fail y → Fail y ≡ verdictOf (o >> last)
+fails-before (good done) last e h = let z : _≡_ {A = ℕ} 0 1 = cc in absurd (omega arith)
+fails-before (refused r) last e h = sym h ∙ e
+
+pub goes-behind : {v w : Verdict} (o last : Outcome Done) → v ≡ verdictOf o → v ≡ Pass → w ≡ verdictOf last → w ≡ verdictOf (o >> last)
+goes-behind (good done) last e h k = k
+goes-behind (refused r) last e h k = let z : _≡_ {A = ℕ} 0 1 = cc in absurd (omega arith)
 
 -- ---- the check of the two texts by its steps
 module _ (s t : List ℕ) where
@@ -126,17 +140,8 @@ module _ (s t : List ℕ) where
     check-feeder y e = rw (short, e)
 
     pub check-read : {v : Verdict} (f : Feeder) → reading s ≡ good f → v ≡ verdictOf (from50 f t) → v ≡ checkOf s t
-    unfolding checkOf checked from50
+    unfolding checkOf checked from50 behind50 from56
     check-read f e h = rw (short, e) h
-
--- every verdict tells the number and the value of its outcome
-verdict-told : (o : Outcome Done) → CheckTold o (verdictOf o)
-verdict-told (good d) = record { number = refl; value = refl }
-verdict-told (refused r) = record { number = refl; value = refl }
-
-pub check-told : (s t : List ℕ) {v : Verdict} → v ≡ checkOf s t → CheckTold (checked s t) v
-unfolding checkOf
-check-told s t e = rw e (verdict-told (checked s t))
 
 -- all of the check's promises, by the first
 pub promised : (s t : List ℕ) {v : Verdict} → v ≡ checkOf s t → (v ≡ checkOf s t) × ((v ≡ Pass → PowerAccount s t) × (CheckTold (checked s t) v × CheckPoints s t v))

@@ -1,16 +1,16 @@
 -- A feeder and its report in memory, with the currents worked at the reported voltages: what the tests over them ask for. Assumes nothing.
 use mathlib.Core.Bool.{_&&_, cond, false, not, true}
 use mathlib.Core.List.{List, _∷_, map}
-use mathlib.Core.Path.{_∙_, _≡_, ap, ap₂, sym}
-use Prim.Native.Nat.{_+_, _<_, ℕ}
+use mathlib.Core.Path.{_∙_, _≡_, ap, ap₂, subst, sym}
+use Prim.Native.Nat.{_+_, _<_, _≤_, suc, zero, ℕ}
 use native.Mathlib.Omega.{arith}
-use lib.IntN.{ℤ}
-use lib.ListN.{getD, length-map}
+use lib.IntN.{natAbs, ℤ}
+use lib.ListN.{getD, length, length-map}
 use Rattle.answers.specs.declared.Found.{Found}
 use Rattle.answers.specs.declared.Found.the-variants.{Nothing}
 use Rattle.equations.specs.Equations.{currentBeyond, downward, drawnPower, lossOf, lostPower, power, sourcePower, voltages, zero3}
-use Rattle.feeder.specs.Feeder.{Feeder, firstRow, parent, rowCount, rowsOf, threeAt}
-use Rattle.feeder.specs.Network.{Held, kept}
+use Rattle.feeder.specs.Feeder.{Feeder, branchAt, firstRow, noBranch, parent, rowCount, rowsOf, tapAt, tapsOn, threeAt}
+use Rattle.feeder.specs.Network.{Held, branchArray, kept}
 use Rattle.feeder.specs.RowLaws.{held, or-none}
 use Rattle.feeder.specs.declared.Network.{Network}
 use Rattle.feeder.specs.declared.Three.{Three}
@@ -20,20 +20,35 @@ use Rattle.deviations.specs.Deviations.{Comparable, differ, firstOff}
 use Rattle.passes.specs.Passes.{LossesAre}
 use Rattle.passes.specs.Same.{Same, currents-same, drawn-same, load-beyond-same, loss-same, lost-same, same-currents, same-kept, voltages-same, zero-voltage-same}
 use Rattle.radial.specs.Radial.{parentIn}
-use Rattle.report.specs.Report.{Reported, reportedVoltages}
+use Rattle.report.specs.Report.{Reported, reportedTaps, reportedVoltages, tapsGiven, withReported}
 use Rattle.compare.specs.Differences.{sourceDiffers}
-use Rattle.report_check.specs.Check.{belowOff, off, voltageOff}
-use Rattle.report_check.specs.ReportFaults.{workedCurrents}
-use Rattle.report_check.specs.Tests.{same3-true}
-use Rattle.report_reader.specs.Read.{ReportHeld, ReportRead}
+use Rattle.verdicts.specs.Check.{belowOff, off, voltageOff}
+use Rattle.verdicts.specs.ReportFaults.{workedCurrents}
+use Rattle.verdicts.specs.Tests.{same3-true}
+use Rattle.report_reader.specs.Read.{ReportHeld, ReportRead, TapsHeld}
 use Rattle.sweeps.specs.Sweeps.{Known, WorkedIs, workOf}
 use Rattle.sweeps.specs.declared.Worked.{Worked}
+use Rattle.feeder.specs.TapLaws.{Retapped, retapped-self, retapped-with}
+use Rattle.feeder.specs.declared.Branch.{Branch}
+use Rattle.feeder.specs.declared.Phase.{Phase}
+use Rattle.equations.specs.Limits.{DeviceOk}
+use Rattle.integers.specs.ListLaws.{length-tab}
+use Rattle.sweeps.specs.Retapped.{retapped-known, withBranches}
+use Rattle.sweeps.specs.SweepsLaws.{branch-held}
 
 -- g has a feeder, and t a report of it
 pub record Met (g : Network) (t : ReportRead) : Type 0 where
   pub known : Known g
   pub report : Reported
   pub read : ReportHeld (rowCount (known .feeder)) report t
+
+-- and the reported taps, within ±16, by node number
+pub record MetTaps (g : Network) (t : ReportRead) (taps : List (List ℤ)) : Type 0 where
+  pub known : Known g
+  pub report : Reported
+  pub read : ReportHeld (rowCount (known .feeder)) report t
+  pub taps-held : TapsHeld (known .feeder) report taps
+  pub small : (k : ℕ) → k < rowCount (known .feeder) → (p : Phase) → natAbs (tapAt (tapsOn (branchAt (withReported (known .feeder) report) (suc k) .device)) p) ≤ 16
 
 -- f in g, its report x in t, the currents worked at the reported voltages in i, and the power drawn there
 pub record InHand (f : Feeder) (x : Reported) (g : Network) (t : ReportRead) (i : List Three) (drawn : Pair) : Type 0 where
@@ -104,3 +119,24 @@ module _ (f : Feeder) (x : Reported) (g : Network) (t : ReportRead) (i : List Th
 -- a branch's parent has a place in the arrays
 pub parents-in : {g : Network} → Known g → (k : ℕ) → k < g .rows + 1 → parentIn (g .branches) k < 201
 parents-in k i q = omega (arith, k .arranged .linked .from i q, k .arranged .linked .few)
+
+-- and each branch is in its limits
+pub devices-in : {g : Network} → Known g → (k : ℕ) → 0 < k → k < g .rows + 1 → DeviceOk (getD (g .branches) k noBranch .device)
+devices-in w zero p q = absurd (omega arith)
+devices-in w (suc k) p q = subst (λ (b : Branch). DeviceOk (b .device)) (sym (branch-held (w .held) (suc k))) (w .fit .devices k (omega (arith, w .held .rows)))
+
+-- ---- the feeder with the reported taps
+pub only-taps : (f : Feeder) (x : Reported) → Retapped f (withReported f x)
+unfolding withReported
+only-taps f x = retapped-with f f (reportedTaps f x) (retapped-self f)
+
+pub taps-many : (f : Feeder) (x : Reported) → rowCount f ≤ 200 → length (reportedTaps f x) ≤ 201
+unfolding reportedTaps
+taps-many f x h = omega (arith, length-tab (tapsGiven f (x .taps)) 0 (suc (rowCount f)))
+
+module _ (g : Network) (t : ReportRead) (taps : List (List ℤ)) (m : MetTaps g t taps) (bs : List Branch) (e : bs ≡ branchArray (withReported (m .known .feeder) (m .report))) where
+  pub own-known : Known (withBranches bs g)
+  own-known = retapped-known g (m .known) (withReported (m .known .feeder) (m .report)) bs (only-taps (m .known .feeder) (m .report)) (m .small) e
+
+  pub own-met : Met (withBranches bs g) t
+  own-met = record { known = own-known; report = m .report; read = subst (λ (n : ℕ). ReportHeld n (m .report) t) (sym (m .known .held .rows) ∙ own-known .held .rows) (m .read) }

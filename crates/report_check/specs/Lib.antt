@@ -1,12 +1,3 @@
-pub mod Check
-pub mod ReportFaults
-pub mod Passed
-pub mod Tests
-pub mod Demand
-pub mod OffAbove
-pub mod ReportLines
-pub mod ReportFinds
-pub mod CheckChain
-pub mod ReportPoints
+-- Laws
 pub mod CheckStages
 pub mod InHand

@@ -1,21 +1,17 @@
-// The check: whether a report belongs to its feeder. specs/Check.antt says what it answers, specs/Demand.antt what a pass implies.
+// The check: whether a report belongs to its feeder. What it answers, and what a pass implies: crate verdicts.
 ghost use mathlib.Core.Path.{_≡_};
 ghost use Rattle.account.specs.Account.{PowerAccount};
-ghost use Rattle.report_check.specs.Check.{CheckTold, checkOf, checked};
-ghost use Rattle.report_check.specs.ReportFaults.{CheckPoints};
+ghost use Rattle.verdicts.specs.Check.{CheckTold, checkOf, checked};
+ghost use Rattle.verdicts.specs.ReportFaults.{CheckPoints};
 use crate::stages::check_text;
 use answers::Refusal;
 use reading::ReadAnswer;
 use reading::read_into;
+use verdicts::Verdict;
 
 pub mod stages;
 
-pub enum Verdict {
-    Pass,
-    Fail(Refusal),
-}
-
-// The report of a feeder: a pass, or the one refusal that document 01 names. Both texts may have any length and any bytes.
+// The report of a feeder: a pass, or the one refusal that documents 01 and 02 name. Both texts may have any length and any bytes.
 pub fn check(feeder: &[u8], report: &[u8]) -> Verdict
     ensures answer { λ r. ⌜ r ≡ checkOf (now (feeder .entry)) (now (report .entry)) ⌝ }
     ensures account { λ r. ⌜ (r ≡ Verdict.Pass → PowerAccount (now (feeder .entry)) (now (report .entry))) ⌝ }

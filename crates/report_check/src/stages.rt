@@ -2,18 +2,18 @@
 // specs/CheckStages.antt has the definition in the same steps.
 ghost use mathlib.Core.Bool.{true};
 ghost use mathlib.Core.Path.{_≡_};
+ghost use Rattle.answers.specs.Answers.{done, good};
 ghost use Rattle.arrays.specs.Arrays.{networkOf, pairsOf, threesOf};
 ghost use Rattle.feeder.specs.Feeder.{Feeder, rowCount};
 ghost use Rattle.feeder.specs.Network.{Held};
 ghost use Rattle.deviations.specs.Deviations.{Comparable};
 ghost use Rattle.report.specs.Report.{Reported};
-ghost use Rattle.report_reader.specs.Read.{ReportHeld, ReportRead, reportRead};
+ghost use Rattle.report_reader.specs.Read.{ReportHeld, ReportRead, TapsHeld, reportRead};
 ghost use Rattle.sweeps.specs.Sweeps.{Known, SmallCurrents};
-ghost use Rattle.report_check.specs.Check.{compared, verdictOf};
-ghost use Rattle.report_check.specs.CheckChain.{from30, from53, from55};
-ghost use Rattle.report_check.specs.CheckStages.{from50};
-ghost use Rattle.report_check.specs.InHand.{Compared, InHand, Met, Totalled};
-use crate::Verdict;
+ghost use Rattle.verdicts.specs.Check.{compared, verdictOf};
+ghost use Rattle.verdicts.specs.CheckChain.{from30, from53, from55};
+ghost use Rattle.report_check.specs.CheckStages.{behind50, from50};
+ghost use Rattle.report_check.specs.InHand.{Compared, InHand, Met, MetTaps, Totalled};
 use answers::Found;
 use answers::Refusal;
 use arrays::Branches;
@@ -30,8 +30,11 @@ use devices;
 use integers::Pair;
 use passes::loss_pass;
 use report_reader::read_report;
+use reported_taps::set_taps;
 use sweeps::Work;
 use sweeps::work_currents;
+use tap_table::taps::TapRows;
+use verdicts::Verdict;
 
 // 55: `i` are the worked currents, `drawn` the power drawn with them.
 fn check_totals(
@@ -48,7 +51,7 @@ fn check_totals(
 ) -> Verdict
     requires { ⌜ Known (networkOf settings (now nodes) (now branches) (now loads) (now order) (now rank)) ⌝ }
     requires { ⌜ SmallCurrents (settings .rows) (threesOf (now i)) ⌝ }
-    ensures { λ r. ⌜ ((f : Feeder) (x : Reported) (t : ReportRead) → Totalled (pairsOf (now (losses .entry))) (now (totals .entry)) t → InHand f x (networkOf settings (now (nodes .entry)) (now (branches .entry)) (now (loads .entry)) (now (order .entry)) (now (rank .entry))) t (threesOf (now (i .entry))) drawn → r ≡ verdictOf (from55 f x)) ⌝ }
+    ensures { λ r. ⌜ ((f : Feeder) (x : Reported) (t : ReportRead) → Totalled (pairsOf (now (losses .entry))) (now (totals .entry)) t → InHand f x (networkOf settings (now (nodes .entry)) (now (branches .entry)) (now (loads .entry)) (now (order .entry)) (now (rank .entry))) t (threesOf (now (i .entry))) drawn → r ≡ verdictOf (from55 (good done) f x)) ⌝ }
 {
     let rows = settings.rows;
     let mut worked = [[0i64; 2]; 201];
@@ -80,7 +83,7 @@ fn check_currents(
     requires { ⌜ Known (networkOf settings (now nodes) (now branches) (now loads) (now order) (now rank)) ⌝ }
     requires { ⌜ Comparable (settings .source) (threesOf (now voltages)) (settings .tol) ⌝ }
     requires { ⌜ SmallCurrents (settings .rows) (threesOf (now i)) ⌝ }
-    ensures { λ r. ⌜ ((f : Feeder) (x : Reported) (t : ReportRead) → Compared (threesOf (now (voltages .entry))) (threesOf (now (currents .entry))) (pairsOf (now (losses .entry))) (now (totals .entry)) t → InHand f x (networkOf settings (now (nodes .entry)) (now (branches .entry)) (now (loads .entry)) (now (order .entry)) (now (rank .entry))) t (threesOf (now (i .entry))) drawn → r ≡ verdictOf (from53 f x)) ⌝ }
+    ensures { λ r. ⌜ ((f : Feeder) (x : Reported) (t : ReportRead) → Compared (threesOf (now (voltages .entry))) (threesOf (now (currents .entry))) (pairsOf (now (losses .entry))) (now (totals .entry)) t → InHand f x (networkOf settings (now (nodes .entry)) (now (branches .entry)) (now (loads .entry)) (now (order .entry)) (now (rank .entry))) t (threesOf (now (i .entry))) drawn → r ≡ verdictOf (from53 (good done) f x)) ⌝ }
 {
     let rows = settings.rows;
     let differs = compare::first_current_differs(rows, currents, i);
@@ -130,7 +133,7 @@ fn check_work(
 ) -> Verdict
     requires { ⌜ Known (networkOf settings (now nodes) (now branches) (now loads) (now order) (now rank)) ⌝ }
     requires { ⌜ Comparable (settings .source) (threesOf (now voltages)) (settings .tol) ⌝ }
-    ensures { λ r. ⌜ ((f : Feeder) (x : Reported) (t : ReportRead) → Compared (threesOf (now (voltages .entry))) (threesOf (now (currents .entry))) (pairsOf (now (losses .entry))) (now (totals .entry)) t → Held f (networkOf settings (now (nodes .entry)) (now (branches .entry)) (now (loads .entry)) (now (order .entry)) (now (rank .entry))) → ReportHeld (rowCount f) x t → r ≡ verdictOf (from30 f x)) ⌝ }
+    ensures { λ r. ⌜ ((f : Feeder) (x : Reported) (t : ReportRead) → Compared (threesOf (now (voltages .entry))) (threesOf (now (currents .entry))) (pairsOf (now (losses .entry))) (now (totals .entry)) t → Held f (networkOf settings (now (nodes .entry)) (now (branches .entry)) (now (loads .entry)) (now (order .entry)) (now (rank .entry))) → ReportHeld (rowCount f) x t → r ≡ verdictOf (from30 (good done) f x)) ⌝ }
 {
     let mut i = [[0i64; 6]; 201];
     let w = work_currents(
@@ -166,7 +169,7 @@ fn check_work(
     }
 }
 
-// 51 and 52, and all that follows.
+// 51 and 52, and all that follows up to 55.
 fn check_report(
     settings: Settings,
     nodes: &Names,
@@ -181,9 +184,10 @@ fn check_report(
     currents: &Threes,
     losses: &Pairs,
     totals: &[i64; 7],
+    tap_names: &Names,
 ) -> Verdict
-    requires { ⌜ Met (networkOf settings (now nodes) (now branches) (now loads) (now order) (now rank)) (reportRead true (now «node_names») (now voltages) (now «from_names») (now «to_names») (now currents) (now losses) (now totals)) ⌝ }
-    ensures { λ r. ⌜ ((f : Feeder) (x : Reported) → Held f (networkOf settings (now (nodes .entry)) (now (branches .entry)) (now (loads .entry)) (now (order .entry)) (now (rank .entry))) → ReportHeld (rowCount f) x (reportRead true (now («node_names» .entry)) (now (voltages .entry)) (now («from_names» .entry)) (now («to_names» .entry)) (now (currents .entry)) (now (losses .entry)) (now (totals .entry))) → r ≡ verdictOf (compared f x)) ⌝ }
+    requires { ⌜ Met (networkOf settings (now nodes) (now branches) (now loads) (now order) (now rank)) (reportRead true (now «node_names») (now voltages) (now «from_names») (now «to_names») (now currents) (now losses) (now totals) (now «tap_names»)) ⌝ }
+    ensures { λ r. ⌜ ((f : Feeder) (x : Reported) → Held f (networkOf settings (now (nodes .entry)) (now (branches .entry)) (now (loads .entry)) (now (order .entry)) (now (rank .entry))) → ReportHeld (rowCount f) x (reportRead true (now («node_names» .entry)) (now (voltages .entry)) (now («from_names» .entry)) (now («to_names» .entry)) (now (currents .entry)) (now (losses .entry)) (now (totals .entry)) (now («tap_names» .entry))) → r ≡ verdictOf (compared f x)) ⌝ }
 {
     let rows = settings.rows;
     let named = compare::first_name_differs(
@@ -193,6 +197,7 @@ fn check_report(
         node_names,
         from_names,
         to_names,
+        tap_names,
     );
     if let Found::At(line) = named {
         return Verdict::Fail(Refusal::NameDiffers(line));
@@ -216,6 +221,56 @@ fn check_report(
     )
 }
 
+// 51 to 55 for the reported taps, which stand by node number, then 56.
+fn check_taps(
+    settings: Settings,
+    nodes: &Names,
+    branches: &Branches,
+    loads: &Loads,
+    order: &Places,
+    rank: &Places,
+    node_names: &Names,
+    voltages: &Threes,
+    from_names: &Names,
+    to_names: &Names,
+    currents: &Threes,
+    losses: &Pairs,
+    totals: &[i64; 7],
+    tap_names: &Names,
+    taps: &TapRows,
+) -> Verdict
+    requires { ⌜ MetTaps (networkOf settings (now nodes) (now branches) (now loads) (now order) (now rank)) (reportRead true (now «node_names») (now voltages) (now «from_names») (now «to_names») (now currents) (now losses) (now totals) (now «tap_names»)) (now taps) ⌝ }
+    ensures { λ r. ⌜ ((f : Feeder) (x : Reported) → Held f (networkOf settings (now (nodes .entry)) (now (branches .entry)) (now (loads .entry)) (now (order .entry)) (now (rank .entry))) → ReportHeld (rowCount f) x (reportRead true (now («node_names» .entry)) (now (voltages .entry)) (now («from_names» .entry)) (now («to_names» .entry)) (now (currents .entry)) (now (losses .entry)) (now (totals .entry)) (now («tap_names» .entry))) → TapsHeld f x (now (taps .entry)) → r ≡ verdictOf (behind50 f x)) ⌝ }
+{
+    let rows = settings.rows;
+    let mut own = *branches;
+    set_taps(&mut own, rows, taps);
+    let verdict = check_report(
+        settings,
+        nodes,
+        &own,
+        loads,
+        order,
+        rank,
+        node_names,
+        voltages,
+        from_names,
+        to_names,
+        currents,
+        losses,
+        totals,
+        tap_names,
+    );
+    if let Verdict::Fail(x) = verdict {
+        return Verdict::Fail(x);
+    }
+    let moves = compare::tap_rows::first_tap_differs(branches, &own, rows, voltages, currents);
+    if let Found::At(line) = moves {
+        return Verdict::Fail(Refusal::TapDiffers(line));
+    }
+    Verdict::Pass
+}
+
 // 50, and all that follows.
 pub fn check_text(
     settings: Settings,
@@ -236,8 +291,12 @@ pub fn check_text(
     let mut currents = [[0i64; 6]; 201];
     let mut losses = [[0i64; 2]; 201];
     let mut totals = [0i64; 7];
+    let mut tap_names = [0u64; 201];
+    let mut taps = [[0i64; 3]; 201];
     if !read_report(
         report,
+        nodes,
+        branches,
         settings.rows,
         settings.limit,
         &mut node_names,
@@ -247,10 +306,12 @@ pub fn check_text(
         &mut currents,
         &mut losses,
         &mut totals,
+        &mut tap_names,
+        &mut taps,
     ) {
         return Verdict::Fail(Refusal::ReportLayout);
     }
-    check_report(
+    check_taps(
         settings,
         nodes,
         branches,
@@ -264,5 +325,7 @@ pub fn check_text(
         &currents,
         &losses,
         &totals,
+        &tap_names,
+        &taps,
     )
 }

@@ -7,9 +7,10 @@ use lib.ListN.{length, length-append}
 use Rattle.equations.specs.Equations.{at}
 use Rattle.feeder.specs.declared.Phase.{Phase}
 use Rattle.feeder.specs.declared.Phase.the-variants.{A, B, C}
+use Rattle.feeder.specs.declared.Taps.{Taps}
 use Rattle.feeder.specs.declared.Three.{Three}
 use Rattle.integers.specs.declared.Pair.{Pair}
-use Rattle.report_lines.specs.Lines.{branchRow, nodeRow, pairFields, threeFields, totalsRow}
+use Rattle.report_lines.specs.Lines.{branchRow, nodeRow, pairFields, tapRow, threeFields, totalsRow}
 use Rattle.report_lines.specs.declared.Figures.{Figures}
 use Rattle.text.specs.NameText.{letters-8}
 use Rattle.text.specs.Text.{decimal, letters}
@@ -41,6 +42,10 @@ pub totals-length : (g : Figures) → length (totalsRow g) ≡
     length (decimal (pos (g .sweeps))) + length (pairFields (g .source)) + length (pairFields (g .drawn)) + length (pairFields (g .lost)) + 1
 unfolding totalsRow
 totals-length g = simp length-append (omega arith)
+
+pub tap-length : (n : ℕ) (t : Taps) → length (tapRow n t) ≡ length (letters 8 n) + length (decimal (t .a)) + length (decimal (t .b)) + length (decimal (t .c)) + 4
+unfolding tapRow
+tap-length n t = simp length-append (omega arith)
 
 -- ---- how long a line can get, where its numbers have at most b bytes each, or those of the loss c
 pub record Short (b : ℕ) (x : Pair) : Type 0 where
@@ -78,3 +83,6 @@ branch-fits from to x loss = branch-most from to (fits3 x) (fits loss)
 
 pub totals-fits : (g : Figures) → length (totalsRow g) ≤ 154
 totals-fits g = totals-most g (fits (g .source)) (fits (g .drawn)) (fits (g .lost))
+
+pub tap-fits : (n : ℕ) (t : Taps) → length (tapRow n t) ≤ 75
+tap-fits n t = omega (arith, tap-length n t, letters-8 n, decimal-fits (t .a), decimal-fits (t .b), decimal-fits (t .c))

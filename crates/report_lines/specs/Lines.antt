@@ -2,6 +2,7 @@
 use mathlib.Core.List.{List, [], _++_, _∷_}
 use Prim.Native.Nat.{ℕ}
 use lib.IntN.{pos}
+use Rattle.feeder.specs.declared.Taps.{Taps}
 use Rattle.feeder.specs.declared.Three.{Three}
 use Rattle.integers.specs.declared.Pair.{Pair}
 use Rattle.report_lines.specs.declared.Figures.{Figures}
@@ -23,3 +24,6 @@ branchRow from to x loss = letters 8 from ++ ((44 ∷ []) ++ (letters 8 to ++ (t
 
 unfoldable pub totalsRow : Figures → List ℕ
 totalsRow g = decimal (pos (g .sweeps)) ++ (pairFields (g .source) ++ (pairFields (g .drawn) ++ (pairFields (g .lost) ++ (10 ∷ []))))
+
+unfoldable pub tapRow : ℕ → Taps → List ℕ
+tapRow n t = letters 8 n ++ ((44 ∷ decimal (t .a)) ++ ((44 ∷ decimal (t .b)) ++ ((44 ∷ decimal (t .c)) ++ (10 ∷ []))))

@@ -2,10 +2,11 @@
 ghost use Prim.Native.Nat.{_+_, _<_, _≤_};
 ghost use mathlib.Core.List.{_∷_};
 ghost use lib.ListN.{length};
-ghost use Rattle.report_lines.specs.Lines.{branchRow, nodeRow, pairFields, threeFields, totalsRow};
+ghost use Rattle.report_lines.specs.Lines.{branchRow, nodeRow, pairFields, tapRow, threeFields, totalsRow};
 ghost use Rattle.text.specs.Promises.{Written};
 ghost use Rattle.text.specs.Text.{decimal};
 use crate::Figures;
+use feeder::Taps;
 use feeder::Three;
 use integers::Pair;
 use text::write::put_byte;
@@ -72,4 +73,16 @@ pub fn put_totals_line(out: &mut [u8], at: usize, figures: Figures) -> usize
     let s = put_pair(out, q, figures.drawn);
     let t = put_pair(out, s, figures.lost);
     put_byte(out, t, 10)
+}
+
+// A regulator's to-name and taps.
+pub fn put_tap_row(out: &mut [u8], at: usize, name: u64, taps: Taps) -> usize
+    requires { ⌜ at + length (tapRow name taps) ≤ length (now out) ⌝ }
+    ensures { λ r. ⌜ Written (now (out .entry)) at (tapRow name taps) r (now (out .exit)) ⌝ }
+{
+    let p = put_name(out, at, name);
+    let q = put_field(out, p, taps.a);
+    let r = put_field(out, q, taps.b);
+    let s = put_field(out, r, taps.c);
+    put_byte(out, s, 10)
 }

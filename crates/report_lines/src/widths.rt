@@ -2,8 +2,9 @@
 ghost use mathlib.Core.Path.{_≡_};
 ghost use Prim.Native.Nat.{_<_};
 ghost use lib.ListN.{length};
-ghost use Rattle.report_lines.specs.Lines.{branchRow, nodeRow, pairFields, threeFields, totalsRow};
+ghost use Rattle.report_lines.specs.Lines.{branchRow, nodeRow, pairFields, tapRow, threeFields, totalsRow};
 use crate::Figures;
+use feeder::Taps;
 use feeder::Three;
 use integers::Pair;
 use text::write::name_width;
@@ -53,4 +54,14 @@ pub fn totals_line_width(figures: Figures) -> usize
     let drawn = pair_width(figures.drawn);
     let lost = pair_width(figures.lost);
     sweeps + source + drawn + lost + 1
+}
+
+pub fn tap_row_width(name: u64, taps: Taps) -> usize
+    ensures { λ r. ⌜ r ≡ length (tapRow name taps) ⌝ }
+{
+    let letters = name_width(name);
+    let a = number_width(taps.a);
+    let b = number_width(taps.b);
+    let c = number_width(taps.c);
+    letters + a + b + c + 4
 }

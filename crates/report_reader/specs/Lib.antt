@@ -1,4 +1,5 @@
 -- Definitions
 pub mod Read
 -- Laws
+pub mod LastLaws
 pub mod ReportLaws

@@ -4,4 +4,4 @@ pub mod TablesRead
 pub mod AnswerLaws
 pub mod RowLaws
 pub mod TableLaws
-pub mod LastLaws
+pub mod TotalsLaws

@@ -1,6 +1,6 @@
 -- A row from its names and from what the reader of its numbers leaves, and what the tests on its numbers say. Assumes nothing.
 use mathlib.Core.Bool.{Bool, and-assoc, and-true, false, true}
-use mathlib.Core.List.{[], _∷_, List}
+use mathlib.Core.List.{List, [], _∷_}
 use mathlib.Core.Path.{_∙_, _≡_, ap, refl, sym}
 use Prim.Native.Nat.{_<_, _≤_, suc, zero, ℕ}
 use native.Mathlib.Omega.{arith}

@@ -1,6 +1,6 @@
 -- A table's rows, read one after the other into arrays, and the lines around them. Assumes nothing.
-use mathlib.Core.Bool.{_&&_, Bool, and-assoc, and-true, false, true}
-use mathlib.Core.List.{[], _++_, _∷_, List, append-assoc, append-nil, map, map-append}
+use mathlib.Core.Bool.{Bool, _&&_, and-assoc, and-true, false, true}
+use mathlib.Core.List.{List, [], _++_, _∷_, append-assoc, append-nil, map, map-append}
 use mathlib.Core.Path.{_∙_, _≡_, ap, refl, sym}
 use Prim.Native.Nat.{_+_, _-_, _<_, _≤_, suc, zero, ℕ}
 use Prim.Native.String.{String}
@@ -8,7 +8,7 @@ use native.Mathlib.Nat.{not-suc-le-zero}
 use native.Mathlib.Omega.{arith}
 use lib.IntN.{ℤ}
 use lib.ListN.{drop, length, length-append, length-map, replicate, set}
-use Rattle.answers.specs.Answers.{_>>=_, Outcome, good, refused}
+use Rattle.answers.specs.Answers.{Outcome, _>>=_, good, refused}
 use Rattle.answers.specs.declared.Refusal.the-variants.{ReportLayout}
 use Rattle.arrays.specs.ArrayLaws.{blank-kept}
 use Rattle.arrays.specs.Arrays.{pairsOf, threesOf}
@@ -27,10 +27,10 @@ use Rattle.report_tables.specs.TablesRead.{Blank, Empty, RowHeld, RowsHe
 use Rattle.report_tables.specs.declared.fields.RowRead.{RowRead}
 
 -- ---- the rows read so far, in front of those that come
-abbrev behind : List Row → Outcome (Placed (List Row)) → Outcome (Placed (List Row))
+abbrev pub behind : List Row → Outcome (Placed (List Row)) → Outcome (Placed (List Row))
 behind l o = o >>= λ y. good (l ++ y .0, y .1)
 
-behind-none : (o : Outcome (Placed (List Row))) → behind [] o ≡ o
+pub behind-none : (o : Outcome (Placed (List Row))) → behind [] o ≡ o
 behind-none (good x) = refl
 behind-none (refused r) = refl
 
@@ -39,22 +39,22 @@ behind-cons l x (good y) = ap (λ (m : List Row). good (m, y .1)) (sym (append-a
 behind-cons l x (refused r) = refl
 
 module _ (m n : ℕ) (s : List ℕ) (at : ℕ) where
-  just-none : (l : List Row) → behind l (rowsJust 0 m n s at) ≡ good (l, at)
+  pub just-none : (l : List Row) → behind l (rowsJust 0 m n s at) ≡ good (l, at)
   unfolding rowsJust
   just-none l = simp append-nil
 
-  just-next : (l : List Row) (k : ℕ) (x : Row) (p : ℕ) → 0 < k → row ReportLayout m n s at ≡ good (x, p) → behind l (rowsJust k m n s at) ≡ behind (l ++ (x ∷ [])) (rowsJust (k - 1) m n s p)
+  pub just-next : (l : List Row) (k : ℕ) (x : Row) (p : ℕ) → 0 < k → row ReportLayout m n s at ≡ good (x, p) → behind l (rowsJust k m n s at) ≡ behind (l ++ (x ∷ [])) (rowsJust (k - 1) m n s p)
   unfolding rowsJust
   just-next l zero x p h e = absurd (not-suc-le-zero h)
   just-next l (suc k) x p h e = let d : suc k - 1 ≡ k = omega arith in rw (e, d) (behind-cons l x (rowsJust k m n s p))
 
-  just-stop : (l : List Row) (k : ℕ) → 0 < k → row ReportLayout m n s at ≡ refused ReportLayout → behind l (rowsJust k m n s at) ≡ refused ReportLayout
+  pub just-stop : (l : List Row) (k : ℕ) → 0 < k → row ReportLayout m n s at ≡ refused ReportLayout → behind l (rowsJust k m n s at) ≡ refused ReportLayout
   unfolding rowsJust
   just-stop l zero h e = absurd (not-suc-le-zero h)
   just-stop l (suc k) h e = rw e
 
 -- ---- an array: nothing at first, and one row more
-column-start : {X : Type 0} (d : X) (branch : Bool) (cells : List X) → cells ≡ replicate 201 d → cells ≡ kept d 201 (unused branch d ++ [])
+pub column-start : {X : Type 0} (d : X) (branch : Bool) (cells : List X) → cells ≡ replicate 201 d → cells ≡ kept d 201 (unused branch d ++ [])
 unfolding kept
 column-start d true cells e = e ∙ blank-kept d 201
 column-start d false cells e = e ∙ blank-kept d 201
@@ -63,7 +63,7 @@ pub unused-length : {X : Type 0} (branch : Bool) (d : X) → length (unused bran
 unused-length true d = refl
 unused-length false d = refl
 
-column-next : {X : Type 0} (d : X) (branch : Bool) (g : Row → X) (l : List Row) (x : Row) (k : ℕ) (cells : List X) (y : X) → k ≡ unusedCount branch + length l → k < 201 →
+pub column-next : {X : Type 0} (d : X) (branch : Bool) (g : Row → X) (l : List Row) (x : Row) (k : ℕ) (cells : List X) (y : X) → k ≡ unusedCount branch + length l → k < 201 →
     cells ≡ columnOf d branch g l → y ≡ g x → set cells k y ≡ columnOf d branch g (l ++ (x ∷ []))
 column-next d branch g l x k cells y c h e f =
     let u = unused branch d ++ map g l in

@@ -1,6 +1,6 @@
--- What the readers of the report's tables answer, by its definitions: a row, a table, the last row. Assumes nothing.
-use mathlib.Core.Bool.{_&&_, Bool, cond, false, true}
-use mathlib.Core.List.{[], _++_, _∷_, List, map}
+-- What the readers of the report's tables answer, by its definitions: a row, a table, the row of the totals. Assumes nothing.
+use mathlib.Core.Bool.{Bool, _&&_, cond, false, true}
+use mathlib.Core.List.{List, [], _++_, _∷_, map}
 use mathlib.Core.Path.{_≡_}
 use Prim.Native.Nat.{_+_, _≤_, ℕ}
 use Prim.Native.String.{String}
@@ -122,10 +122,11 @@ TableIs branch n s o t = Answer o (t .ok) (TableHeld branch n s o t)
 abbrev pub NamedTable : Bool → ℕ → List ℕ → List ℕ → TableRead → Type 0
 NamedTable branch count header s t = (name : String) (n : ℕ) → bytes name ≡ header → n ≡ count → TableIs branch n s (tableOf name n (nameCount branch) (valueCount branch) s) t
 
--- ---- the last row
-pub record TotalsHeld (o : Outcome Row) (t : Totals) : Type 0 where
-  pub whole : o ≡ good (record { words = []; values = t .values })
+-- ---- the row of the totals
+pub record TotalsHeld (s : List ℕ) (o : Outcome (Placed Row)) (t : Totals) : Type 0 where
+  pub whole : o ≡ good (record { words = []; values = t .values }, t .next)
   pub seven : length (t .values) ≡ 7
+  pub within : t .next ≤ length s
 
-abbrev pub TotalsAre : Outcome Row → Totals → Type 0
-TotalsAre o t = Answer o (t .ok) (TotalsHeld o t)
+abbrev pub TotalsAre : List ℕ → Outcome (Placed Row) → Totals → Type 0
+TotalsAre s o t = Answer o (t .ok) (TotalsHeld s o t)

@@ -1,7 +1,8 @@
 -- A text that is written piece by piece: what is left to write. Assumes nothing.
-use mathlib.Core.List.{List, _++_}
-use mathlib.Core.Path.{_≡_, ap, refl, sym, _∙_}
+use mathlib.Core.List.{List, [], _++_}
+use mathlib.Core.Path.{_∙_, _≡_, ap, refl, sym}
 use Prim.Native.Nat.{_+_, _-_, _≤_, ℕ}
+use native.Mathlib.Nat.{add-zero}
 use native.Mathlib.Omega.{arith}
 use lib.ListN.{drop, length, length-append}
 use lib.Seq.{sets}
@@ -34,6 +35,10 @@ left-next {out = out} {at = at} {vs = vs} {p = p} ws l w = record {
 pub left-last : {first : List ℕ} {start : ℕ} {whole out : List ℕ} {at : ℕ} {vs : List ℕ} {p : ℕ} {last : List ℕ} →
     Left first start whole out at vs → Written out at vs p last → Written first start whole p last
 left-last l w = record { next = w .next ∙ l .place; holds = w .holds ∙ l .holds }
+
+-- nothing is written
+pub written-none : (out : List ℕ) (at : ℕ) → Written out at [] at out
+written-none out at = record { next = sym (add-zero at); holds = refl }
 
 -- the lent rest `&mut xs[a..]` has room for what has room from place a on
 pub rest-room : (xs : List ℕ) (a n : ℕ) → a + n ≤ length xs → n ≤ length (midOf a (length xs - a) xs)

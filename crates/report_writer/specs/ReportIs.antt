@@ -1,22 +1,24 @@
 -- The text over the arrays is the report's text. Assumes nothing.
+use mathlib.Core.Bool.{Bool, cond, false, true}
 use mathlib.Core.List.{List, [], _++_, _∷_, append-assoc}
-use mathlib.Core.Path.{_≡_, ap, refl, sym, _∙_}
+use mathlib.Core.Path.{_∙_, _≡_, ap, refl, sym}
 use Prim.Native.Nat.{_+_, _-_, _<_, _≤_, suc, zero, ℕ}
 use native.Mathlib.Omega.{arith}
 use lib.IntN.{pos}
 use lib.ListN.{getD, length, length-append}
 use Rattle.equations.specs.Equations.{drawnPower, lossOf, lostPower, sourcePower, zero3}
-use Rattle.feeder.specs.Feeder.{Feeder, branchAt, noBranch, parent, rowCount}
+use Rattle.feeder.specs.Feeder.{Feeder, branchAt, noBranch, parent, regulates, regulators, rowCount, tapsOn}
 use Rattle.feeder.specs.Network.{branchArray, kept}
 use Rattle.feeder.specs.NetworkLaws.{getD-kept, kept-below}
 use Rattle.feeder.specs.declared.Branch.{Branch}
+use Rattle.feeder.specs.declared.Taps.{Taps}
 use Rattle.feeder.specs.declared.Three.{Three}
-use Rattle.integers.specs.Lists.{count, tab}
+use Rattle.integers.specs.Lists.{chosen, count, tab}
 use Rattle.integers.specs.Pairs.{0c}
 use Rattle.integers.specs.declared.Pair.{Pair}
-use Rattle.report.specs.Report.{branchLine, branchesText, nameText, nodeLine, nodesText, pairText, reportText, threeText, totalsLine, totalsText}
-use Rattle.report_lines.specs.Lines.{branchRow, nodeRow, pairFields, threeFields, totalsRow}
-use Rattle.report_writer.specs.Tables.{branchLineAt, branchTable, fromIn, Given, linesFrom, nodeLineAt, nodeTable, totalsTable, wholeText}
+use Rattle.report.specs.Report.{branchLine, branchesText, nameText, nodeLine, nodesText, pairText, reportText, tapLine, tapsText, threeText, totalsLine, totalsText}
+use Rattle.report_lines.specs.Lines.{branchRow, nodeRow, pairFields, tapRow, threeFields, totalsRow}
+use Rattle.report_writer.specs.Tables.{Given, branchLineAt, branchTable, fromIn, linesFrom, nodeLineAt, nodeTable, tapLineAt, tapTable, totalsTable, wholeText}
 use Rattle.report_lines.specs.declared.Figures.{Figures}
 use Rattle.text.specs.Text.{bytes, decimal, joined, letters, line}
 
@@ -36,7 +38,7 @@ pub record Shown (f : Feeder) (vs is : List Three) (nodes : List ℕ) (branches 
 
 pub whole-length : (nodes : List ℕ) (branches : List Branch) (rows : ℕ) (v i : List Three) (losses : List Pair) (g : Figures) →
     length (wholeText nodes branches rows v i losses g) ≡
-    length (nodeTable (nodeLineAt nodes v) rows) + length (branchTable (branchLineAt nodes branches i losses) rows) + length (totalsTable g)
+    length (nodeTable (nodeLineAt nodes v) rows) + length (branchTable (branchLineAt nodes branches i losses) rows) + length (totalsTable g) + length (tapTable (tapLineAt nodes branches) rows)
 unfolding wholeText
 whole-length nodes branches rows v i losses g = simp length-append (omega arith)
 
@@ -79,6 +81,10 @@ totals-line g =
     ∙ ap (λ (t : List ℕ). decimal (pos (g .sweeps)) ++ t)
     (pair-behind s (pairText d ++ pairText l) ∙ ap (λ (t : List ℕ). pairFields s ++ t) (pair-behind d (pairText l) ∙ ap (λ (t : List ℕ). pairFields d ++ t) (pair-behind l [])))
 
+pub tap-line : (n : ℕ) (t : Taps) → line (letters 8 n ∷ decimal (t .a) ∷ decimal (t .b) ∷ decimal (t .c) ∷ []) ≡ tapRow n t
+unfolding behind tapRow
+tap-line n t = line-behind (letters 8 n) (decimal (t .a) ∷ decimal (t .b) ∷ decimal (t .c) ∷ [])
+
 -- ---- tables: the lines k to n, line by line
 same-joined : (g h : ℕ → List ℕ) (k m : ℕ) → ((j : ℕ) → k ≤ j → j < k + m → g j ≡ h j) → joined g (count k m) ≡ joined h (count k m)
 unfolding count tab joined
@@ -100,15 +106,28 @@ branches-joined g h n e =
     let z : suc n - 1 ≡ n = omega arith in
     rw z (same-joined g h 1 n (λ k p q. e k (omega arith) (omega arith)))
 
+-- the texts of those that are chosen are texts of all, of which the others have none
+pub joined-chosen : (g : ℕ → List ℕ) (c : ℕ → Bool) (l : List ℕ) → joined g (chosen c l) ≡ joined (λ k. cond (c k) (g k) []) l
+unfolding chosen joined
+joined-chosen g c [] = refl
+joined-chosen g c (k ∷ l) = go (c k) (joined-chosen g c l)
+  where
+    go : (d : Bool) → joined g (chosen c l) ≡ joined (λ j. cond (c j) (g j) []) l → joined g (cond d (k ∷ chosen c l) (chosen c l)) ≡ cond d (g k) [] ++ joined (λ j. cond (c j) (g j) []) l
+    go true e = ap (λ (t : List ℕ). g k ++ t) e
+    go false e = e
+
 module _ {f : Feeder} {vs is : List Three} {nodes : List ℕ} {branches : List Branch} {rows : ℕ} {v i : List Three} {losses : List Pair} {g : Figures}
     (s : Shown f vs is nodes branches rows v i losses g) where
   name-at : (k : ℕ) → k < 201 → nameText f k ≡ letters 8 (getD nodes k 0)
   unfolding nameText
   name-at k h = rw (s .names) (ap (letters 8) (sym (kept-below 0 0 201 (f .nodes) k h)))
 
-  from-at : (k : ℕ) → fromIn branches k ≡ parent f k
+  row-at : (k : ℕ) → getD branches k noBranch ≡ branchAt f k
   unfolding branchAt
-  from-at k = rw (s .held) (ap (λ (b : Branch). b .from) (getD-kept noBranch 201 (noBranch ∷ f .branches) k (let h = s .few in omega arith)))
+  row-at k = rw (s .held) (getD-kept noBranch 201 (noBranch ∷ f .branches) k (let h = s .few in omega arith))
+
+  from-at : (k : ℕ) → fromIn branches k ≡ parent f k
+  from-at k = ap (λ (b : Branch). b .from) (row-at k)
 
   -- such arrays are what the code asks for
   pub shown-given : g .sweeps < 9223372036854775808 → Given branches rows g
@@ -127,6 +146,16 @@ module _ {f : Feeder} {vs is : List Three} {nodes : List ℕ} {branches : List B
       let l = s .few in
       rw (name-at k (omega arith), name-at (parent f k) (s .from k p h), from-at k, s .currents k p h, s .loss k p h) (branch-line _ _ _ _)
 
+  tap-at : (k : ℕ) → 0 < k → k ≤ rowCount f → cond (regulates (branchAt f k .device)) (tapLine f k) [] ≡ tapLineAt nodes branches k
+  unfolding tapLine tapLineAt
+  tap-at k p h =
+      let l = s .few in
+      rw (name-at k (omega arith), row-at k) (ap (λ (t : List ℕ). cond (regulates (branchAt f k .device)) t []) (tap-line _ (tapsOn (branchAt f k .device))))
+
+  taps-joined : joined (tapLine f) (regulators f) ≡ linesFrom (tapLineAt nodes branches) 1 (rowCount f)
+  unfolding regulators
+  taps-joined = joined-chosen (tapLine f) (λ k. regulates (branchAt f k .device)) (count 1 (rowCount f)) ∙ branches-joined _ _ (rowCount f) tap-at
+
   pub report-is : reportText f vs is (g .sweeps) ≡ wholeText nodes branches rows v i losses g
-  unfolding reportText nodesText branchesText totalsText totalsLine wholeText nodeTable branchTable totalsTable bytes
-  report-is = rw (s .count, nodes-joined _ _ (rowCount f) node-at, branches-joined _ _ (rowCount f) branch-at, ← s .source, ← s .drawn, ← s .lost, totals-line g)
+  unfolding reportText nodesText branchesText totalsText totalsLine tapsText wholeText nodeTable branchTable totalsTable tapTable bytes
+  report-is = rw (s .count, nodes-joined _ _ (rowCount f) node-at, branches-joined _ _ (rowCount f) branch-at, ← s .source, ← s .drawn, ← s .lost, totals-line g, taps-joined)

@@ -1,20 +1,21 @@
 -- A report whose numbers keep their limits has fewer than 65,536 bytes. Assumes nothing.
-use mathlib.Core.List.{List}
+use mathlib.Core.Bool.{Bool, cond, false, true}
+use mathlib.Core.List.{List, []}
 use Prim.Native.Nat.{_*_, _+_, _<_, _≤_, suc, zero, ℕ}
 use native.Mathlib.Nat.{suc-mul}
 use native.Mathlib.Omega.{arith}
 use lib.ListN.{getD, length, length-append}
 use Rattle.equations.specs.Equations.{at, drawnPower, lossOf, lostPower, sourcePower, zero3}
-use Rattle.feeder.specs.Feeder.{Feeder, rowCount}
+use Rattle.feeder.specs.Feeder.{Feeder, branchAt, regulates, regulators, rowCount, tapsOn}
 use Rattle.feeder.specs.declared.Branch.{Branch}
 use Rattle.feeder.specs.declared.Phase.{Phase}
 use Rattle.feeder.specs.declared.Three.{Three}
 use Rattle.integers.specs.Lists.{count, tab}
 use Rattle.integers.specs.PairLaws.{Within}
 use Rattle.integers.specs.declared.Pair.{Pair}
-use Rattle.report.specs.Report.{branchLine, branchesText, nameText, nodeLine, nodesText, reportText, totalsLine, totalsText}
-use Rattle.report_lines.specs.LineLaws.{Short, branch-most, node-most, totals-most}
-use Rattle.report_writer.specs.ReportIs.{Shown, branch-line, node-line, report-is, totals-line}
+use Rattle.report.specs.Report.{branchLine, branchesText, nameText, nodeLine, nodesText, reportText, tapLine, tapsText, totalsLine, totalsText}
+use Rattle.report_lines.specs.LineLaws.{Short, branch-most, node-most, tap-fits, totals-most}
+use Rattle.report_writer.specs.ReportIs.{Shown, branch-line, joined-chosen, node-line, report-is, tap-line, totals-line}
 use Rattle.report_writer.specs.Tables.{wholeText}
 use Rattle.report_lines.specs.declared.Figures.{Figures}
 use Rattle.text.specs.NumberText.{decimal-19, decimal-short}
@@ -59,13 +60,27 @@ module _ {f : Feeder} {v i : List Three} (l : Limited f v i) where
       let g : Figures = record { sweeps = k; source = sourcePower f i; drawn = drawnPower f v; lost = lostPower f i } in
       rw (totals-line g) (totals-most g (short-19 (l .source)) (short-19 (l .drawn)) (short-19 (l .lost)))
 
+  tap-short : (k : ℕ) → length (tapLine f k) ≤ 75
+  unfolding tapLine nameText
+  tap-short k = rw (tap-line (getD (f .nodes) k 0) (tapsOn (branchAt f k .device))) (tap-fits _ _)
+
+  -- whatever the taps are
+  taps-short : length (joined (tapLine f) (regulators f)) ≤ rowCount f * 75
+  unfolding regulators
+  taps-short = rw (joined-chosen (tapLine f) (λ k. regulates (branchAt f k .device)) (count 1 (rowCount f))) (joined-most _ 75 1 (rowCount f) (λ j p q. one j (regulates (branchAt f j .device))))
+    where
+      one : (k : ℕ) (d : Bool) → length (cond d (tapLine f k) []) ≤ 75
+      one k true = tap-short k
+      one k false = omega arith
+
   pub report-short : (k : ℕ) → length (reportText f v i k) < 65536
-  unfolding reportText nodesText branchesText totalsText bytes joined
+  unfolding reportText nodesText branchesText totalsText tapsText bytes joined
   report-short k = simp length-append
       (omega (
         arith,
         l .few,
         totals-short k,
+        taps-short,
         node-short 0 (omega arith),
         joined-most (nodeLine f v) 63 1 (rowCount f) (λ j p q. node-short j (omega arith)),
         joined-most (branchLine f i) 112 1 (rowCount f) (λ j p q. branch-short j p (omega arith)),

@@ -1,12 +1,16 @@
 -- Laws of the tables: the lines k to n one by one, and lengths. Assumes nothing.
+use mathlib.Core.Bool.{Bool, cond, false, true}
 use mathlib.Core.List.{List, [], _++_, _∷_}
-use mathlib.Core.Path.{_≡_, refl}
+use mathlib.Core.Path.{_≡_, ap, refl}
 use Prim.Native.Nat.{_+_, _-_, _<_, _≤_, suc, ℕ}
 use native.Mathlib.Omega.{arith}
-use lib.ListN.{length, length-append}
+use lib.ListN.{getD, length, length-append}
+use Rattle.feeder.specs.Feeder.{noBranch, regulates, tapsOn}
+use Rattle.feeder.specs.declared.Branch.{Branch}
 use Rattle.integers.specs.Lists.{count, tab}
-use Rattle.report_lines.specs.Lines.{totalsRow}
-use Rattle.report_writer.specs.Tables.{branchTable, linesFrom, nodeTable, totalsTable}
+use Rattle.report_lines.specs.Lines.{tapRow, totalsRow}
+use Rattle.report_writer.specs.Tables.{branchTable, linesFrom, nodeTable, tapLineAt, tapTable, totalsTable}
+use Rattle.report_lines.specs.LineLaws.{tap-fits}
 use Rattle.report_lines.specs.declared.Figures.{Figures}
 use Rattle.text.specs.Text.{bytes, joined}
 
@@ -38,6 +42,27 @@ pub branch-table-length : (g : ℕ → List ℕ) (n : ℕ) → length (branchTab
 unfolding branchTable bytes
 branch-table-length g n = omega (arith, length-append (linesFrom g 1 n) (10 ∷ []))
 
-pub totals-table-length : (g : Figures) → length (totalsTable g) ≡ 55 + length (totalsRow g)
+pub totals-table-length : (g : Figures) → length (totalsTable g) ≡ 56 + length (totalsRow g)
 unfolding totalsTable bytes
-totals-table-length g = omega arith
+totals-table-length g = omega (arith, length-append (totalsRow g) (10 ∷ []))
+
+pub tap-table-length : (g : ℕ → List ℕ) (n : ℕ) → length (tapTable g n) ≡ 21 + length (linesFrom g 1 n)
+unfolding tapTable bytes
+tap-table-length g n = omega arith
+
+-- ---- the line of a row in the last table
+pub tap-none : (nodes : List ℕ) (branches : List Branch) (k : ℕ) → regulates (getD branches k noBranch .device) ≡ false → tapLineAt nodes branches k ≡ []
+unfolding tapLineAt
+tap-none nodes branches k e = rw e refl
+
+pub tap-some : (nodes : List ℕ) (branches : List Branch) (k : ℕ) → regulates (getD branches k noBranch .device) ≡ true → tapLineAt nodes branches k ≡ tapRow (getD nodes k 0) (tapsOn (getD branches k noBranch .device))
+unfolding tapLineAt
+tap-some nodes branches k e = ap (λ (d : Bool). cond d (tapRow (getD nodes k 0) (tapsOn (getD branches k noBranch .device))) []) e
+
+pub tap-line-fits : (nodes : List ℕ) (branches : List Branch) (k : ℕ) → length (tapLineAt nodes branches k) ≤ 75
+unfolding tapLineAt
+tap-line-fits nodes branches k = go (regulates (getD branches k noBranch .device))
+  where
+    go : (d : Bool) → length (cond d (tapRow (getD nodes k 0) (tapsOn (getD branches k noBranch .device))) []) ≤ 75
+    go true = tap-fits _ _
+    go false = omega arith

@@ -17,9 +17,11 @@ use arrays::Threes;
 use report_lines::Figures;
 use tables::put_branches;
 use tables::put_nodes;
+use tables::put_taps_table;
 use tables::put_totals;
 use widths::branches_width;
 use widths::nodes_width;
+use widths::taps_width;
 use widths::totals_width;
 
 mod tables;
@@ -43,7 +45,8 @@ pub fn report_width(
     let first = nodes_width(nodes, rows, v);
     let second = branches_width(nodes, branches, rows, i, losses);
     let third = totals_width(figures);
-    first + second + third
+    let fourth = taps_width(nodes, branches, rows);
+    first + second + third + fourth
 }
 
 // The report, from the start of `out`. Each table is written into the part of the buffer that starts where the table before it ended.
@@ -68,5 +71,7 @@ pub fn put_report(
     let second = put_branches(&mut out[first..], nodes, branches, rows, i, losses);
     let middle = first + second;
     let third = put_totals(&mut out[middle..], figures);
-    middle + third
+    let last = middle + third;
+    let fourth = put_taps_table(&mut out[last..], nodes, branches, rows);
+    last + fourth
 }

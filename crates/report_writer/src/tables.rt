@@ -1,8 +1,8 @@
 // Writers of the report's tables. A table is written from the start of the buffer that it is lent.
-ghost use Prim.Native.Nat.{_<_, _≤_};
+ghost use Prim.Native.Nat.{_+_, _<_, _≤_};
 ghost use lib.ListN.{length};
 ghost use Rattle.arrays.specs.Arrays.{branchesOf, pairsOf, threesOf};
-ghost use Rattle.report_writer.specs.Tables.{branchLineAt, branchTable, Linked, nodeLineAt, nodeTable, totalsTable};
+ghost use Rattle.report_writer.specs.Tables.{branchLineAt, branchTable, Linked, nodeLineAt, nodeTable, tapLineAt, tapTable, totalsTable};
 ghost use Rattle.text.specs.Promises.{Written};
 use arrays::Branches;
 use arrays::Names;
@@ -11,9 +11,12 @@ use arrays::Threes;
 use arrays::from_at;
 use arrays::pair_at;
 use arrays::three_at;
+use branch_taps::regulates_at;
+use branch_taps::taps_at;
 use report_lines::Figures;
 use report_lines::lines::put_branch;
 use report_lines::lines::put_node;
+use report_lines::lines::put_tap_row;
 use report_lines::lines::put_totals_line;
 use text::write::put_byte;
 use text::write::put_bytes;
@@ -67,7 +70,7 @@ pub fn put_branches(
     put_byte(out, at, 10)
 }
 
-// The column names, and one line.
+// The column names, one line, and an empty line.
 pub fn put_totals(out: &mut [u8], figures: Figures) -> usize
     requires { ⌜ figures .sweeps < 9223372036854775808 ⌝ }
     requires { ⌜ length (totalsTable figures) ≤ length (now out) ⌝ }
@@ -78,5 +81,35 @@ pub fn put_totals(out: &mut [u8], figures: Figures) -> usize
         0,
         b"sweeps,source_p,source_q,drawn_p,drawn_q,lost_p,lost_q\n",
     );
-    put_totals_line(out, at, figures)
+    let end = put_totals_line(out, at, figures);
+    put_byte(out, end, 10)
+}
+
+// The line of branch row k in the last table: none where it is no regulator's.
+fn put_tap_line(out: &mut [u8], at: usize, nodes: &Names, branches: &Branches, k: usize) -> usize
+    requires { ⌜ k ≤ 200 ⌝ }
+    requires { ⌜ at + length (tapLineAt (now nodes) (branchesOf (now branches)) k) ≤ length (now out) ⌝ }
+    ensures { λ r. ⌜ Written (now (out .entry)) at (tapLineAt (now (nodes .entry)) (branchesOf (now (branches .entry))) k) r (now (out .exit)) ⌝ }
+{
+    if regulates_at(branches, k) {
+        let name = nodes[k];
+        let taps = taps_at(branches, k);
+        return put_tap_row(out, at, name, taps);
+    }
+    at
+}
+
+// The column names, and a line for each regulator.
+pub fn put_taps_table(out: &mut [u8], nodes: &Names, branches: &Branches, rows: usize) -> usize
+    requires { ⌜ rows ≤ 200 ⌝ }
+    requires { ⌜ length (tapTable (tapLineAt (now nodes) (branchesOf (now branches))) rows) ≤ length (now out) ⌝ }
+    ensures { λ r. ⌜ Written (now (out .entry)) 0 (tapTable (tapLineAt (now (nodes .entry)) (branchesOf (now (branches .entry)))) rows) r (now (out .exit)) ⌝ }
+{
+    let mut at = put_bytes(out, 0, b"to,tap_a,tap_b,tap_c\n");
+    let mut k = 1;
+    while k <= rows {
+        at = put_tap_line(out, at, nodes, branches, k);
+        k += 1;
+    }
+    at
 }

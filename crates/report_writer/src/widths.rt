@@ -3,7 +3,7 @@ ghost use mathlib.Core.Path.{_≡_};
 ghost use Prim.Native.Nat.{_<_, _≤_};
 ghost use lib.ListN.{length};
 ghost use Rattle.arrays.specs.Arrays.{branchesOf, pairsOf, threesOf};
-ghost use Rattle.report_writer.specs.Tables.{branchLineAt, branchTable, Linked, nodeLineAt, nodeTable, totalsTable};
+ghost use Rattle.report_writer.specs.Tables.{branchLineAt, branchTable, Linked, nodeLineAt, nodeTable, tapLineAt, tapTable, totalsTable};
 use arrays::Branches;
 use arrays::Names;
 use arrays::Pairs;
@@ -11,9 +11,12 @@ use arrays::Threes;
 use arrays::from_at;
 use arrays::pair_at;
 use arrays::three_at;
+use branch_taps::regulates_at;
+use branch_taps::taps_at;
 use report_lines::Figures;
 use report_lines::widths::branch_width;
 use report_lines::widths::node_width;
+use report_lines::widths::tap_row_width;
 use report_lines::widths::totals_line_width;
 
 pub fn nodes_width(nodes: &Names, rows: usize, v: &Threes) -> usize
@@ -63,5 +66,31 @@ pub fn totals_width(figures: Figures) -> usize
     ensures value { λ r. ⌜ r ≡ length (totalsTable figures) ⌝ }
     ensures size { λ r. ⌜ r < 1000000 ⌝ }
 {
-    55 + totals_line_width(figures)
+    56 + totals_line_width(figures)
+}
+
+fn tap_line_width(nodes: &Names, branches: &Branches, k: usize) -> usize
+    requires { ⌜ k ≤ 200 ⌝ }
+    ensures { λ r. ⌜ r ≡ length (tapLineAt (now (nodes .entry)) (branchesOf (now (branches .entry))) k) ⌝ }
+{
+    if regulates_at(branches, k) {
+        let name = nodes[k];
+        let taps = taps_at(branches, k);
+        return tap_row_width(name, taps);
+    }
+    0
+}
+
+pub fn taps_width(nodes: &Names, branches: &Branches, rows: usize) -> usize
+    requires { ⌜ rows ≤ 200 ⌝ }
+    ensures value { λ r. ⌜ r ≡ length (tapTable (tapLineAt (now (nodes .entry)) (branchesOf (now (branches .entry)))) rows) ⌝ }
+    ensures size { λ r. ⌜ r < 1000000 ⌝ }
+{
+    let mut width = 21;
+    let mut k = 1;
+    while k <= rows {
+        width += tap_line_width(nodes, branches, k);
+        k += 1;
+    }
+    width
 }

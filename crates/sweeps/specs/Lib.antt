@@ -1,3 +1,4 @@
 pub mod Sweeps
 pub mod SweepsLaws
 pub mod ReadKnown
+pub mod Retapped

@@ -35,7 +35,7 @@ module _ {f : Feeder} {g : Network} (h : Held f g) where
   in-arrays = record { branches-are = h .branches; rows-are = h .rows }
 
   -- the branch of row k
-  branch-held : (k : ℕ) → getD (g .branches) k noBranch ≡ branchAt f k
+  pub branch-held : (k : ℕ) → getD (g .branches) k noBranch ≡ branchAt f k
   unfolding branchAt
   branch-held k = rw (h .branches) (getD-kept noBranch 201 (noBranch ∷ f .branches) k (let q = h .few-rows in omega arith))
 

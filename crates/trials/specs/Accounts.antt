@@ -10,45 +10,30 @@ a00002 : accountOf (bytes "source,va_re,va_im,vb_re,vb_im,vc_re,vc_im,tol,sweeps
 unfolding opened
 a00002 = refl
 
--- 00083-31-edge-q-ok-own
-a00083 : accountOf (bytes "source,va_re,va_im,vb_re,vb_im,vc_re,vc_im,tol,sweeps\nS,100000,0,-360000,-623538,-360000,623538,1,20\n\nfrom,to,phases,kind,p1,p2,p3,p4,p5,p6,p7,p8,p9,p10,p11,p12\nS,N1,A,L,0,0,0,0,0,0,0,0,0,0,0,0\n\nnode,phase,kind,vn,p,q\nN1,A,Z,100000,0,-2000000\n") (bytes "node,va_re,va_im,vb_re,vb_im,vc_re,vc_im\nS,100000,0,-360000,-623538,-360000,623538\nN1,100000,0,0,0,0,0\n\nfrom,to,ia_re,ia_im,ib_re,ib_im,ic_re,ic_im,loss_p,loss_q\nS,N1,0,2000000,0,0,0,0,0,0\n\nsweeps,source_p,source_q,drawn_p,drawn_q,lost_p,lost_q\n1,0,-200000000000,0,-200000000000,0,0\n") ≡ good (record { differs = record { re = pos 0; im = pos 0 }; allowed = 6100002 })
+-- 00126-32-J-reg-1800000-own
+a00126 : accountOf (bytes "source,va_re,va_im,vb_re,vb_im,vc_re,vc_im,tol,sweeps\nS,90000,0,90000,0,90000,0,1,20\n\nfrom,to,phases,kind,p1,p2,p3,p4,p5,p6,p7,p8,p9,p10,p11,p12\nS,N1,A,R,16,0,0,0,0,0,0,0,0,0,0,0\n\nnode,phase,kind,vn,p,q\nN1,A,P,100000,1800000,0\n") (bytes "node,va_re,va_im,vb_re,vb_im,vc_re,vc_im\nS,90000,0,90000,0,90000,0\nN1,100000,0,0,0,0,0\n\nfrom,to,ia_re,ia_im,ib_re,ib_im,ic_re,ic_im,loss_p,loss_q\nS,N1,1800000,0,0,0,0,0,0,0\n\nsweeps,source_p,source_q,drawn_p,drawn_q,lost_p,lost_q\n1,180000000000,0,180000000000,0,0,0\n") ≡ good (record { differs = record { re = pos 0; im = pos 0 }; allowed = 5590003 })
 unfolding opened
-a00083 = refl
-
--- 00163-33-V0-reg-ok-own
-a00163 : accountOf (bytes "source,va_re,va_im,vb_re,vb_im,vc_re,vc_im,tol,sweeps\nS,1800000,0,1800000,0,1800000,0,1,20\n\nfrom,to,phases,kind,p1,p2,p3,p4,p5,p6,p7,p8,p9,p10,p11,p12\nS,N,A,R,16,0,0,0,0,0,0,0,0,0,0,0\n\nnode,phase,kind,vn,p,q\n") (bytes "node,va_re,va_im,vb_re,vb_im,vc_re,vc_im\nS,1800000,0,1800000,0,1800000,0\nN,2000000,0,0,0,0,0\n\nfrom,to,ia_re,ia_im,ib_re,ib_im,ic_re,ic_im,loss_p,loss_q\nS,N,0,0,0,0,0,0,0,0\n\nsweeps,source_p,source_q,drawn_p,drawn_q,lost_p,lost_q\n1,0,0,0,0,0,0\n") ≡ good (record { differs = record { re = pos 0; im = pos 0 }; allowed = 1800002 })
-unfolding opened
-a00163 = refl
+a00126 = refl
 
 -- 00272-tie-D-own
 a00272 : accountOf (bytes "source,va_re,va_im,vb_re,vb_im,vc_re,vc_im,tol,sweeps\nS,1,-1,4,-3,5,-5,0,20\n\nfrom,to,phases,kind,p1,p2,p3,p4,p5,p6,p7,p8,p9,p10,p11,p12\nS,N,ABC,D,2,1,0,0,0,0,0,0,0,0,0,0\n\nnode,phase,kind,vn,p,q\n") (bytes "node,va_re,va_im,vb_re,vb_im,vc_re,vc_im\nS,1,-1,4,-3,5,-5\nN,-2,2,2,-1,1,-1\n\nfrom,to,ia_re,ia_im,ib_re,ib_im,ic_re,ic_im,loss_p,loss_q\nS,N,0,0,0,0,0,0,0,0\n\nsweeps,source_p,source_q,drawn_p,drawn_q,lost_p,lost_q\n1,0,0,0,0,0,0\n") ≡ good (record { differs = record { re = pos 0; im = pos 0 }; allowed = 20 })
 unfolding opened
 a00272 = refl
 
--- 00706-ex-sweeps20
-a00706 : accountOf (bytes "source,va_re,va_im,vb_re,vb_im,vc_re,vc_im,tol,sweeps\nS,720000,0,-360000,-623538,-360000,623538,1,20\n\nfrom,to,phases,kind,p1,p2,p3,p4,p5,p6,p7,p8,p9,p10,p11,p12\nS,N1,A,L,1000000,0,0,0,0,0,0,0,0,0,0,0\n\nnode,phase,kind,vn,p,q\nN1,A,P,720000,72000,0\n") (bytes "node,va_re,va_im,vb_re,vb_im,vc_re,vc_im\nS,720000,0,-360000,-623538,-360000,623538\nN1,719000,0,0,0,0,0\n\nfrom,to,ia_re,ia_im,ib_re,ib_im,ic_re,ic_im,loss_p,loss_q\nS,N1,10014,0,0,0,0,0,10024014,0\n\nsweeps,source_p,source_q,drawn_p,drawn_q,lost_p,lost_q\n20,7210080000,0,7200066000,0,10024014,0\n") ≡ good (record { differs = record { re = pos 51980; im = pos 0 }; allowed = 749044 })
+-- 00936-hard-own
+a00936 : accountOf (bytes "source,va_re,va_im,vb_re,vb_im,vc_re,vc_im,tol,sweeps\nS,1800000,0,-900000,-1558800,-900000,1558800,30,10\n\nfrom,to,phases,kind,p1,p2,p3,p4,p5,p6,p7,p8,p9,p10,p11,p12\nN1,N2,ABC,L,12192840,36111999,3048210,9027999,0,0,12192840,36111999,0,0,12192840,36111999\nN0,N1,ABC,L,26479614,3177849,6619903,794462,0,0,26479614,3177849,0,0,26479614,3177849\nS,N0,ABC,L,23469980,813633,5867495,203408,0,0,23469980,813633,0,0,23469980,813633\n\nnode,phase,kind,vn,p,q\nN2,A,P,1800000,908716,-127767\nN2,B,P,1800000,917409,21191\nN2,C,Z,1800000,901433,171775\nN1,C,Z,1800000,0,-559077\n") (bytes "node,va_re,va_im,vb_re,vb_im,vc_re,vc_im\nS,1800000,0,-900000,-1558800,-900000,1558800\nN2,1423529,-157160,-942085,-1179902,-562656,1402910\nN1,1524924,27014,-803539,-1319199,-724399,1424465\nN0,1671784,18458,-849777,-1448660,-820624,1492197\n\nfrom,to,ia_re,ia_im,ib_re,ib_im,ic_re,ic_im,loss_p,loss_q\nN1,N2,64046,1905,-39009,-46607,-8216,42015,10167154771,30112439157\nN0,N1,64046,1905,-39009,-46607,-32796,29515,22382102682,2686105797\nS,N0,64046,1905,-39009,-46607,-32796,29515,19838157857,687745960\n\nsweeps,source_p,source_q,drawn_p,drawn_q,lost_p,lost_q\n9,298566273600,-9126975600,246179395079,-42612904502,52387415310,33486290914\n") ≡ good (record { differs = record { re = pos 393458; im = negsuc 671001 }; allowed = 22779347 })
 unfolding opened
-a00706 = refl
-
--- 00995-moved-alltol
-a00995 : accountOf (bytes "source,va_re,va_im,vb_re,vb_im,vc_re,vc_im,tol,sweeps\nNVVF,865,-3530,-3486,1025,2701,2572,20,10\n\nfrom,to,phases,kind,p1,p2,p3,p4,p5,p6,p7,p8,p9,p10,p11,p12\nNVVF,IJ,ABC,Y,19349,63892,2438748,2658275,1161497,1949340,2353334,845243,0,0,0,0\nIJ,7,ABC,L,19240,10543,0,0,4779,-8895,9954,29808,0,0,20144,23215\n\nnode,phase,kind,vn,p,q\n7,C,P,13232,288,-78\n") (bytes "node,va_re,va_im,vb_re,vb_im,vc_re,vc_im\nNVVF,865,-3530,-3486,1025,2701,2572\nIJ,2836,-11636,-11531,3365,8755,7898\n7,2833,-11636,-11491,3365,8797,7891\n\nfrom,to,ia_re,ia_im,ib_re,ib_im,ic_re,ic_im,loss_p,loss_q\nNVVF,IJ,0,0,0,0,1373,2119,1500897,539259\nIJ,7,0,0,0,0,1373,2119,12087,13849\n\nsweeps,source_p,source_q,drawn_p,drawn_q,lost_p,lost_q\n7,30242618,-7237449,28799310,-7806500,1512984,553108\n") ≡ good (record { differs = record { re = negsuc 70542; im = pos 8884 }; allowed = 181146 })
-unfolding opened
-a00995 = refl
+a00936 = refl
 
 -- 01055-good-own
 a01055 : accountOf (bytes "source,va_re,va_im,vb_re,vb_im,vc_re,vc_im,tol,sweeps\nT5N7,238608,-25815,-141660,-193733,-96948,219548,1000,10\n\nfrom,to,phases,kind,p1,p2,p3,p4,p5,p6,p7,p8,p9,p10,p11,p12\n\nnode,phase,kind,vn,p,q\nT5N7,C,P,240000,64357,-8023\nT5N7,A,I,211381,7,-2\nT5N7,A,P,240000,76,62\n") (bytes "node,va_re,va_im,vb_re,vb_im,vc_re,vc_im\nT5N7,238608,-25815,-141660,-193733,-96948,219548\n\nfrom,to,ia_re,ia_im,ib_re,ib_im,ic_re,ic_im,loss_p,loss_q\n\nsweeps,source_p,source_q,drawn_p,drawn_q,lost_p,lost_q\n1,6444088636,-796412136,6444088636,-796412136,0,0\n") ≡ good (record { differs = record { re = negsuc 6139; im = negsuc 85056 }; allowed = 75109345 })
 unfolding opened
 a01055 = refl
 
--- 01106-moved--tol
-a01106 : accountOf (bytes "source,va_re,va_im,vb_re,vb_im,vc_re,vc_im,tol,sweeps\nS,-11,-12,-33,25,-14,2,0,50\n\nfrom,to,phases,kind,p1,p2,p3,p4,p5,p6,p7,p8,p9,p10,p11,p12\nS,N1,ABC,D,9,2,-7680,-2560,2560,2560,2191,-7680,0,0,0,0\nN1,N2,ABC,Y,2,2,5000000,-5000000,8511448,-5000000,15000000,-8126950,0,0,0,0\nS,N0,ABC,D,7,7,7500000,2500000,2499995,3291580,-2499995,2499995,0,0,0,0\n\nnode,phase,kind,vn,p,q\nN1,B,Z,48,2,3\nN0,A,I,147842,2,-1\nS,B,I,41417,2,-1\n") (bytes "node,va_re,va_im,vb_re,vb_im,vc_re,vc_im\nS,-11,-12,-33,25,-14,2\nN1,1,-3,-5,8,4,-5\nN2,1,-3,-5,8,4,-5\nN0,2,-13,-22,37,19,-23\n\nfrom,to,ia_re,ia_im,ib_re,ib_im,ic_re,ic_im,loss_p,loss_q\nS,N1,0,0,608,1345,0,0,0,0\nN1,N2,0,0,0,0,0,0,0,0\nS,N0,1,-1,0,0,0,0,2,0\n\nsweeps,source_p,source_q,drawn_p,drawn_q,lost_p,lost_q\n46,8300,11470,7925,11486,2,0\n") ≡ good (record { differs = record { re = negsuc 205; im = negsuc 567 }; allowed = 4222 })
+-- 01124-hard-own
+a01124 : accountOf (bytes "source,va_re,va_im,vb_re,vb_im,vc_re,vc_im,tol,sweeps\nS,240000,0,-120000,-207840,-120000,207840,3,50\n\nfrom,to,phases,kind,p1,p2,p3,p4,p5,p6,p7,p8,p9,p10,p11,p12\nN1,N2,A,L,-487756,234851,0,0,0,0,0,0,0,0,0,0\nS,N0,A,R,0,0,0,0,0,0,0,0,0,0,0,0\nN0,N1,A,R,-1,0,0,0,0,0,0,0,0,0,0,0\n\nnode,phase,kind,vn,p,q\nN2,A,P,240000,524145,57817\n") (bytes "node,va_re,va_im,vb_re,vb_im,vc_re,vc_im\nS,240000,0,-120000,-207840,-120000,207840\nN2,248105,-6343,0,0,0,0\nN0,240000,0,0,0,0,0\nN1,238509,0,0,0,0,0\n\nfrom,to,ia_re,ia_im,ib_re,ib_im,ic_re,ic_im,loss_p,loss_q\nN1,N2,210526,-28686,0,0,0,0,-2201952268,1060124248\nS,N0,209218,-28508,0,0,0,0,0,0\nN0,N1,210526,-28686,0,0,0,0,0,0\n\nsweeps,source_p,source_q,drawn_p,drawn_q,lost_p,lost_q\n4,50212320000,6841920000,52414508528,5781773612,-2201952268,1060124248\n") ≡ good (record { differs = record { re = negsuc 250251; im = pos 6690 }; allowed = 2885884 })
 unfolding opened
-a01106 = refl
-
--- 01139-moved-rand
-a01139 : accountOf (bytes "source,va_re,va_im,vb_re,vb_im,vc_re,vc_im,tol,sweeps\n6I0G,719903,11840,-360000,-623538,-360000,623538,20,50\n\nfrom,to,phases,kind,p1,p2,p3,p4,p5,p6,p7,p8,p9,p10,p11,p12\n6I0G,XIT,B,L,0,0,0,0,0,0,0,1,0,0,0,0\nXIT,CCF,B,R,0,11,0,0,0,0,0,0,0,0,0,0\n\nnode,phase,kind,vn,p,q\nXIT,B,Z,626793,836,-70\nXIT,B,P,720000,-13911,21713\nCCF,B,I,773154,8313,8079\n6I0G,A,Z,720000,0,-201\nCCF,B,P,862951,46089,7697\n6I0G,A,I,787584,910,-910\nXIT,B,P,720000,210,-50\nCCF,B,P,773154,-7,1\n6I0G,C,I,720000,-79559,131510\n6I0G,B,Z,720000,1574,1480\n6I0G,C,Z,578538,0,-11743\nCCF,B,Z,798572,875,-48\nCCF,B,P,680808,699,827\n6I0G,C,Z,581601,0,-1723\nXIT,B,P,720000,923,-124\n6I0G,B,P,720000,1339,459\nXIT,B,P,720000,158933,32871\nCCF,B,P,773154,-2665,68791\nCCF,B,P,773154,31704,4154\nXIT,B,Z,720000,13,-2\n6I0G,B,P,725391,75069,75130\nXIT,B,Z,816960,0,-7949\nXIT,B,I,720000,703,67\nCCF,B,P,773154,233,36\nCCF,B,Z,790174,0,-1389\n") (bytes "node,va_re,va_im,vb_re,vb_im,vc_re,vc_im\n6I0G,719903,11840,-360000,-623538,-360000,623538\nXIT,0,0,-360017,-623518,0,0\nCCF,0,0,-386569,-669589,0,0\n\nfrom,to,ia_re,ia_im,ib_re,ib_im,ic_re,ic_im,loss_p,loss_q\n6I0G,XIT,0,0,-32602,-18574,0,0,0,0\nXIT,CCF,0,0,-15390,-3839,0,0,0,0\n\nsweeps,source_p,source_q,drawn_p,drawn_q,lost_p,lost_q\n39,23244869564,32313190537,23245119261,32312890664,0,0\n") ≡ good (record { differs = record { re = pos 3341441; im = negsuc 484377 }; allowed = 30276542 })
-unfolding opened
-a01139 = refl
+a01124 = refl
 
 -- 01197-moved-rand
 a01197 : accountOf (bytes "source,va_re,va_im,vb_re,vb_im,vc_re,vc_im,tol,sweeps\nFC15,720000,771,-437679,-603937,-354990,614861,1,10\n\nfrom,to,phases,kind,p1,p2,p3,p4,p5,p6,p7,p8,p9,p10,p11,p12\nFC15,LXN,ABC,L,3237561,1699840,0,0,611455,1652882,4318510,2279904,1515406,1889852,3252844,2044070\n\nnode,phase,kind,vn,p,q\nFC15,C,P,843458,1897,1746\nLXN,C,Z,720000,0,-27265\nFC15,C,Z,720000,100445,24552\nFC15,B,P,856902,10,14\nLXN,B,I,641406,237,25\nLXN,B,P,720000,19941,-1524\nFC15,B,Z,720000,490,-141\nLXN,C,Z,603393,43661,-1002\nLXN,B,I,720000,2132,433\nLXN,B,Z,720000,0,-7834\nFC15,C,I,714344,61,-16\nLXN,B,Z,720000,0,-1338\nFC15,A,P,720000,39470,-2178\nLXN,B,I,766620,5,4\nLXN,B,I,720000,9,1\nFC15,C,Z,859270,768,187\nLXN,A,Z,613035,687,824\nLXN,B,P,720000,48726,35296\nFC15,A,Z,720000,0,-198\nFC15,C,Z,720000,-394,38\nLXN,A,Z,720000,746,383\nFC15,C,Z,720000,24,11\nLXN,C,P,720000,730,402\nFC15,A,Z,720000,12511,-2024\nFC15,A,Z,720000,0,-5800\n") (bytes "node,va_re,va_im,vb_re,vb_im,vc_re,vc_im\nFC15,720000,771,-437679,-603937,-354990,614861\nLXN,721274,1719,-433205,-598911,-351262,617044\n\nfrom,to,ia_re,ia_im,ib_re,ib_im,ic_re,ic_im,loss_p,loss_q\nFC15,LXN,236,-211,-8336,-5851,-7629,5573,82886685,52648246\n\nsweeps,source_p,source_q,drawn_p,drawn_q,lost_p,lost_q\n7,28717373412,1457012043,28634496605,1404354972,82886685,52648246\n") ≡ good (record { differs = record { re = pos 917266; im = negsuc 649407 }; allowed = 23542256 })
@@ -60,105 +45,70 @@ a1-00002 : accountOf (bytes "source,va_re,va_im,vb_re,vb_im,vc_re,vc_im,tol,swee
 unfolding opened
 a1-00002 = refl
 
--- S-1, 00051-Z-CA-own
-a1-00051 : accountOf (bytes "source,va_re,va_im,vb_re,vb_im,vc_re,vc_im,tol,sweeps\nS,720000,0,-360000,-623538,-360000,623538,1,20\n\nfrom,to,phases,kind,p1,p2,p3,p4,p5,p6,p7,p8,p9,p10,p11,p12\nS,N1,ABC,L,300000,600000,100000,200000,90000,180000,300000,600000,80000,170000,300000,600000\n\nnode,phase,kind,vn,p,q\nN1,CA,Z,1247077,90000,30000\n") (bytes "node,va_re,va_im,vb_re,vb_im,vc_re,vc_im\nS,720000,0,-360000,-623538,-360000,623538\nN1,719655,-92,-360027,-623542,-359655,623630\n\nfrom,to,ia_re,ia_im,ib_re,ib_im,ic_re,ic_im,loss_p,loss_q\nS,N1,5043,-5692,0,0,-5043,5692,2432342,4855392\n\nsweeps,source_p,source_q,drawn_p,drawn_q,lost_p,lost_q\n2,8995618296,3002857866,8993185954,2998002474,2432342,4855392\n") ≡ good (record { differs = record { re = pos 491684; im = pos 434179 }; allowed = 1767444 })
+-- S-1, 00080-vn-delta-4000000-own
+a1-00080 : accountOf (bytes "source,va_re,va_im,vb_re,vb_im,vc_re,vc_im,tol,sweeps\nS,720000,0,-360000,-623538,-360000,623538,1,20\n\nfrom,to,phases,kind,p1,p2,p3,p4,p5,p6,p7,p8,p9,p10,p11,p12\nS,N1,ABC,L,0,0,0,0,0,0,0,0,0,0,0,0\n\nnode,phase,kind,vn,p,q\nN1,AB,Z,4000000,1,0\n") (bytes "node,va_re,va_im,vb_re,vb_im,vc_re,vc_im\nS,720000,0,-360000,-623538,-360000,623538\nN1,720000,0,-360000,-623538,-360000,623538\n\nfrom,to,ia_re,ia_im,ib_re,ib_im,ic_re,ic_im,loss_p,loss_q\nS,N1,0,0,0,0,0,0,0,0\n\nsweeps,source_p,source_q,drawn_p,drawn_q,lost_p,lost_q\n1,0,0,0,0,0,0\n") ≡ good (record { differs = record { re = negsuc 9719; im = pos 0 }; allowed = 1703540 })
 unfolding opened
-a1-00051 = refl
-
--- S-1, 00125-23-ABC-BC-own
-a1-00125 : accountOf (bytes "source,va_re,va_im,vb_re,vb_im,vc_re,vc_im,tol,sweeps\nS,720000,0,-360000,-623538,-360000,623538,1,20\n\nfrom,to,phases,kind,p1,p2,p3,p4,p5,p6,p7,p8,p9,p10,p11,p12\nS,N1,ABC,L,0,0,0,0,0,0,0,0,0,0,0,0\n\nnode,phase,kind,vn,p,q\nN1,BC,Z,720000,1,0\n") (bytes "node,va_re,va_im,vb_re,vb_im,vc_re,vc_im\nS,720000,0,-360000,-623538,-360000,623538\nN1,720000,0,-360000,-623538,-360000,623538\n\nfrom,to,ia_re,ia_im,ib_re,ib_im,ic_re,ic_im,loss_p,loss_q\nS,N1,0,0,0,0,0,0,0,0\n\nsweeps,source_p,source_q,drawn_p,drawn_q,lost_p,lost_q\n1,0,0,0,0,0,0\n") ≡ good (record { differs = record { re = negsuc 299999; im = pos 0 }; allowed = 1247078 })
-unfolding opened
-a1-00125 = refl
+a1-00080 = refl
 
 -- S-1, 00157-31-CA-2000000-own
 a1-00157 : accountOf (bytes "source,va_re,va_im,vb_re,vb_im,vc_re,vc_im,tol,sweeps\nS,50000,0,0,0,-50000,0,1,20\n\nfrom,to,phases,kind,p1,p2,p3,p4,p5,p6,p7,p8,p9,p10,p11,p12\n\nnode,phase,kind,vn,p,q\nS,CA,P,100000,2000000,0\n") (bytes "node,va_re,va_im,vb_re,vb_im,vc_re,vc_im\nS,50000,0,0,0,-50000,0\n\nfrom,to,ia_re,ia_im,ib_re,ib_im,ic_re,ic_im,loss_p,loss_q\n\nsweeps,source_p,source_q,drawn_p,drawn_q,lost_p,lost_q\n1,200000000000,0,200000000000,0,0,0\n") ≡ good (record { differs = record { re = pos 0; im = pos 0 }; allowed = 8100001 })
 unfolding opened
 a1-00157 = refl
 
--- S-1, 00201-rand-own
-a1-00201 : accountOf (bytes "source,va_re,va_im,vb_re,vb_im,vc_re,vc_im,tol,sweeps\nS,-25078,112477,-181287,42323,174808,-198701,7,5\n\nfrom,to,phases,kind,p1,p2,p3,p4,p5,p6,p7,p8,p9,p10,p11,p12\nS,N0,ABC,Y,3,2,15000000,-15000000,-15000000,15000000,4999990,-5000000,0,0,0,0\n\nnode,phase,kind,vn,p,q\nS,AB,Z,760,2,1\n") (bytes "node,va_re,va_im,vb_re,vb_im,vc_re,vc_im\nS,-25078,112477,-181287,42323,174808,-198701\nN0,-16719,74985,-120858,28215,116539,-132467\n\nfrom,to,ia_re,ia_im,ib_re,ib_im,ic_re,ic_im,loss_p,loss_q\nS,N0,0,0,0,0,0,0,0,0\n\nsweeps,source_p,source_q,drawn_p,drawn_q,lost_p,lost_q\n1,10153369153,5076693567,10153369153,5076693567,0,0\n") ≡ good (record { differs = record { re = pos 32797; im = pos 25389 }; allowed = 2892745 })
+-- S-1, 00231-rand-own
+a1-00231 : accountOf (bytes "source,va_re,va_im,vb_re,vb_im,vc_re,vc_im,tol,sweeps\nZUQZ,240000,0,-124814,-216184,-135568,198745,20,100\n\nfrom,to,phases,kind,p1,p2,p3,p4,p5,p6,p7,p8,p9,p10,p11,p12\nZUQZ,MPD7,BC,R,0,4,8,0,0,0,0,0,0,0,0,0\nZUQZ,ZTG9,ABC,R,2,-11,14,0,0,0,0,0,0,0,0,0\nZUQZ,J,ABC,L,24653785,40831847,0,0,0,0,31541245,38603515,30707914,39251723,56467681,45586757\nZUQZ,1UL2SD07,ABC,R,1,-1,-5,0,0,0,0,0,0,0,0,0\nZUQZ,5E,ABC,R,13,2,16,0,0,0,0,0,0,0,0,0\nZUQZ,8MQ1QWMV,B,L,0,0,0,0,0,0,81551672,-54227872,0,0,0,0\nZUQZ,7V809WJP,ABC,R,0,14,12,0,0,0,0,0,0,0,0,0\nZUQZ,MLY,ABC,L,72415323,66465787,0,0,0,0,92019823,67526697,18313131,31982056,48918305,42137391\n\nnode,phase,kind,vn,p,q\nZTG9,A,P,208563,40,26\n8MQ1QWMV,B,P,240000,893,1074\n1UL2SD07,AB,I,431918,681,-987\nZTG9,B,I,266546,578,19\n5E,B,P,256570,2236,1972\n7V809WJP,B,P,271564,36171,22880\nZUQZ,CA,Z,431944,0,-9\nZTG9,CA,P,420067,8,1\nMPD7,B,P,249351,72694,3672\nJ,CA,P,415692,5,4\nJ,BC,Z,380513,3239,1508\n7V809WJP,CA,I,439497,47,28\n") (bytes "node,va_re,va_im,vb_re,vb_im,vc_re,vc_im\nZUQZ,240000,0,-124814,-216184,-135568,198745\nMPD7,0,0,-128014,-221727,-142703,209205\nZTG9,243038,0,-116785,-202277,-148568,217803\nJ,239993,-2,-124713,-216132,-136007,196082\n1UL2SD07,241509,0,-124039,-214841,-131460,192722\n5E,261224,0,-126394,-218921,-150631,220828\n8MQ1QWMV,0,0,-119748,-218294,0,0\n7V809WJP,240000,0,-136782,-236914,-146560,214859\nMLY,240000,0,-124814,-216184,-135568,198745\n\nfrom,to,ia_re,ia_im,ib_re,ib_im,ic_re,ic_im,loss_p,loss_q\nZUQZ,MPD7,0,0,-15439,-23872,0,0,0,0\nZUQZ,ZTG9,17,-12,-115,-184,-1,1,0,0\nZUQZ,J,1,-1,-404,-934,403,935,2756199,589407\nZUQZ,1UL2SD07,20,277,-20,-277,0,0,0,0\nZUQZ,5E,0,0,-1118,-376,0,0,0,0\nZUQZ,8MQ1QWMV,0,0,-551,-107,0,0,2569469,-1708283\nZUQZ,7V809WJP,6,-11,-13854,-7269,-6,11,0,0\nZUQZ,MLY,0,0,0,0,0,0,0,0\n\nsweeps,source_p,source_q,drawn_p,drawn_q,lost_p,lost_q\n3,11712300954,3045806625,11707189426,3046864388,5325668,-1118876\n") ≡ good (record { differs = record { re = negsuc 358909; im = pos 199943 }; allowed = 12382568 })
 unfolding opened
-a1-00201 = refl
-
--- S-1, 00254-moved-rand
-a1-00254 : accountOf (bytes "source,va_re,va_im,vb_re,vb_im,vc_re,vc_im,tol,sweeps\nS,1800000,0,-900000,-1558800,-900000,1558800,30,100\n\nfrom,to,phases,kind,p1,p2,p3,p4,p5,p6,p7,p8,p9,p10,p11,p12\nS,N0,ABC,L,-32241421,100000000,-8060356,25000000,0,0,-32241421,100000000,0,0,-32241421,100000000\n\nnode,phase,kind,vn,p,q\nN0,BC,P,3117691,706743,89959\nN0,B,P,1800000,693919,-161417\nN0,B,Z,1800000,0,-289402\nN0,C,Z,1800000,595991,390350\nN0,C,Z,1800000,0,-685113\n") (bytes "node,va_re,va_im,vb_re,vb_im,vc_re,vc_im\nS,1800000,0,-900000,-1558800,-900000,1558800\nN0,1646519,-26938,-1513930,-1666547,-477621,1898271\n\nfrom,to,ia_re,ia_im,ib_re,ib_im,ic_re,ic_im,loss_p,loss_q\nS,N0,0,0,-8172,-58760,-18415,48177,-19924095644,61796532802\n\nsweeps,source_p,source_q,drawn_p,drawn_q,lost_p,lost_q\n68,190621695600,-25491488400,210546530362,-87285818264,-19924095644,61796532802\n") ≡ good (record { differs = record { re = negsuc 1038624; im = negsuc 3831237 }; allowed = 29464155 })
-unfolding opened
-a1-00254 = refl
+a1-00231 = refl
 
 -- S-1, 00307-rand-own
 a1-00307 : accountOf (bytes "source,va_re,va_im,vb_re,vb_im,vc_re,vc_im,tol,sweeps\nS,146812,-99074,-39682,83259,125740,-35673,2,5\n\nfrom,to,phases,kind,p1,p2,p3,p4,p5,p6,p7,p8,p9,p10,p11,p12\nS,N0,ABC,Y,3,9,2430656,4999990,5000000,-5000000,-4999990,-4999990,0,0,0,0\nN0,N1,ABC,D,8,9,-9318124,-8768649,4999990,5000000,-5000000,5000000,0,0,0,0\n\nnode,phase,kind,vn,p,q\nN0,C,Z,1270636,-2,2\n") (bytes "node,va_re,va_im,vb_re,vb_im,vc_re,vc_im\nS,146812,-99074,-39682,83259,125740,-35673\nN0,440436,-297222,-119046,249777,377220,-107019\nN1,71118,-213978,-629417,615374,558299,-401396\n\nfrom,to,ia_re,ia_im,ib_re,ib_im,ic_re,ic_im,loss_p,loss_q\nS,N0,0,0,0,0,0,0,0,0\nN0,N1,0,0,0,0,0,0,0,0\n\nsweeps,source_p,source_q,drawn_p,drawn_q,lost_p,lost_q\n1,0,0,0,0,0,0\n") ≡ good (record { differs = record { re = pos 19046; im = negsuc 19045 }; allowed = 2605226 })
 unfolding opened
 a1-00307 = refl
 
--- S-1, 00365-rand-own
-a1-00365 : accountOf (bytes "source,va_re,va_im,vb_re,vb_im,vc_re,vc_im,tol,sweeps\n783D,1903,0,-951,-1648,-1060,1581,1,50\n\nfrom,to,phases,kind,p1,p2,p3,p4,p5,p6,p7,p8,p9,p10,p11,p12\n783D,0EHXJPQF,AB,L,14750954,17995712,2827559,5964553,0,0,18530397,6397361,0,0,0,0\n0EHXJPQF,G,B,L,0,0,0,0,0,0,0,-1,0,0,0,0\n\nnode,phase,kind,vn,p,q\nG,B,Z,1903,0,0\n783D,C,P,1903,0,0\n") (bytes "node,va_re,va_im,vb_re,vb_im,vc_re,vc_im\n783D,1903,0,-951,-1648,-1060,1581\n0EHXJPQF,1903,0,-951,-1648,0,0\nG,0,0,-951,-1648,0,0\n\nfrom,to,ia_re,ia_im,ib_re,ib_im,ic_re,ic_im,loss_p,loss_q\n783D,0EHXJPQF,0,0,0,0,0,0,0,0\n0EHXJPQF,G,0,0,0,0,0,0,0,0\n\nsweeps,source_p,source_q,drawn_p,drawn_q,lost_p,lost_q\n1,0,0,0,0,0,0\n") ≡ good (record { differs = record { re = pos 0; im = pos 0 }; allowed = 5244 })
+-- S-1, 00391-rand-own
+a1-00391 : accountOf (bytes "source,va_re,va_im,vb_re,vb_im,vc_re,vc_im,tol,sweeps\nXJT,16499,0,-8249,-14289,-8627,14943,1,5\n\nfrom,to,phases,kind,p1,p2,p3,p4,p5,p6,p7,p8,p9,p10,p11,p12\nXJT,9RK,ABC,L,599043,-171785,131866,242501,132837,220633,242054,456761,221829,113938,366350,-415078\n9RK,A,ABC,D,572,240,981247,2538469,1888737,2654779,3041786,1285060,0,0,0,0\nA,5A,ABC,L,0,1,0,0,0,0,0,1,0,0,1,1\n\nnode,phase,kind,vn,p,q\n9RK,AB,P,33669,3,-1\nXJT,C,I,14544,79,2387\n5A,A,Z,11990,0,0\n5A,AB,Z,21121,0,-1\n9RK,B,P,19455,0,0\n9RK,AB,Z,28577,0,-2\nA,CA,I,20767,77,85\n9RK,B,P,16499,811,679\n") (bytes "node,va_re,va_im,vb_re,vb_im,vc_re,vc_im\nXJT,16499,0,-8249,-14289,-8627,14943\n9RK,16538,185,-8211,-13953,-8543,15062\nA,10407,-6148,-10385,-5931,-123,11992\n5A,10407,-6148,-10385,-5931,-123,11992\n\nfrom,to,ia_re,ia_im,ib_re,ib_im,ic_re,ic_im,loss_p,loss_q\nXJT,9RK,-66,-203,-6229,-2427,141,439,1028218,2025108\n9RK,A,-168,-521,0,-5,168,526,122535,115225\nA,5A,0,5,0,-5,0,0,0,0\n\nsweeps,source_p,source_q,drawn_p,drawn_q,lost_p,lost_q\n3,99699837,361421156,98546995,359282816,1150753,2140333\n") ≡ good (record { differs = record { re = pos 530; im = negsuc 4692 }; allowed = 351526 })
 unfolding opened
-a1-00365 = refl
-
--- S-1, 00420-moved-tol
-a1-00420 : accountOf (bytes "source,va_re,va_im,vb_re,vb_im,vc_re,vc_im,tol,sweeps\nX2,81,0,-37,-66,-39,74,20,50\n\nfrom,to,phases,kind,p1,p2,p3,p4,p5,p6,p7,p8,p9,p10,p11,p12\nX2,5KWH,ABC,L,244,69,37,107,94,-72,267,236,84,27,161,-252\n5KWH,92,ABC,L,0,0,0,0,0,0,1,-1,0,0,1,1\n\nnode,phase,kind,vn,p,q\n92,C,P,79,12,14\nX2,CA,P,137,0,0\n5KWH,AB,Z,137,0,0\n5KWH,A,Z,79,0,0\n5KWH,B,I,79,0,0\n") (bytes "node,va_re,va_im,vb_re,vb_im,vc_re,vc_im\nX2,81,0,-37,-66,-39,74\n5KWH,81,0,-37,-66,-40,74\n92,81,20,-37,-66,-40,74\n\nfrom,to,ia_re,ia_im,ib_re,ib_im,ic_re,ic_im,loss_p,loss_q\nX2,5KWH,0,0,0,0,7858,20464,7858,-20464\n5KWH,92,0,0,0,0,7858,20464,0,0\n\nsweeps,source_p,source_q,drawn_p,drawn_q,lost_p,lost_q\n23,1207874,1379588,1200016,1400052,7858,-20464\n") ≡ good (record { differs = record { re = pos 90; im = negsuc 8350 }; allowed = 1190207 })
-unfolding opened
-a1-00420 = refl
+a1-00391 = refl
 
 -- S-3, 00002-source-at-own
 a3-00002 : accountOf (bytes "source,va_re,va_im,vb_re,vb_im,vc_re,vc_im,tol,sweeps\nS,700000,0,-350000,-606218,0,0,1,20\n\nfrom,to,phases,kind,p1,p2,p3,p4,p5,p6,p7,p8,p9,p10,p11,p12\nS,N1,AB,L,1000,1000,0,0,0,0,1000,1000,0,0,0,0\n\nnode,phase,kind,vn,p,q\nS,A,P,1000000,70000,9000\n") (bytes "node,va_re,va_im,vb_re,vb_im,vc_re,vc_im\nS,700000,0,-350000,-606218,0,0\nN1,700000,0,-350000,-606218,0,0\n\nfrom,to,ia_re,ia_im,ib_re,ib_im,ic_re,ic_im,loss_p,loss_q\nS,N1,0,0,0,0,0,0,0,0\n\nsweeps,source_p,source_q,drawn_p,drawn_q,lost_p,lost_q\n1,7000000000,900200000,7000000000,900200000,0,0\n") ≡ good (record { differs = record { re = pos 0; im = pos 200000 }; allowed = 722574 })
 unfolding opened
 a3-00002 = refl
 
--- S-3, 00038-node-at-complex-own
-a3-00038 : accountOf (bytes "source,va_re,va_im,vb_re,vb_im,vc_re,vc_im,tol,sweeps\nS,420000,560000,-350000,-606218,0,0,1,20\n\nfrom,to,phases,kind,p1,p2,p3,p4,p5,p6,p7,p8,p9,p10,p11,p12\nS,N1,AB,L,1000,1000,0,0,0,0,1000,1000,0,0,0,0\n\nnode,phase,kind,vn,p,q\nN1,A,P,1000000,70000,9000\n") (bytes "node,va_re,va_im,vb_re,vb_im,vc_re,vc_im\nS,420000,560000,-350000,-606218,0,0\nN1,420000,560000,-350000,-606218,0,0\n\nfrom,to,ia_re,ia_im,ib_re,ib_im,ic_re,ic_im,loss_p,loss_q\nS,N1,7029,7229,0,0,0,0,7229,7029\n\nsweeps,source_p,source_q,drawn_p,drawn_q,lost_p,lost_q\n1,7000420000,900060000,7000420000,900060000,7229,7029\n") ≡ good (record { differs = record { re = pos 409833; im = pos 49833 }; allowed = 1022776 })
+-- S-3, 00057-source-at-neg-own
+a3-00057 : accountOf (bytes "source,va_re,va_im,vb_re,vb_im,vc_re,vc_im,tol,sweeps\nS,-560000,420000,-350000,-606218,0,0,1,20\n\nfrom,to,phases,kind,p1,p2,p3,p4,p5,p6,p7,p8,p9,p10,p11,p12\nS,N1,AB,L,1000,1000,0,0,0,0,1000,1000,0,0,0,0\n\nnode,phase,kind,vn,p,q\nS,A,P,1000000,70000,9000\n") (bytes "node,va_re,va_im,vb_re,vb_im,vc_re,vc_im\nS,-560000,420000,-350000,-606218,0,0\nN1,-560000,420000,-350000,-606218,0,0\n\nfrom,to,ia_re,ia_im,ib_re,ib_im,ic_re,ic_im,loss_p,loss_q\nS,N1,0,0,0,0,0,0,0,0\n\nsweeps,source_p,source_q,drawn_p,drawn_q,lost_p,lost_q\n1,7000420000,900060000,7000420000,900060000,0,0\n") ≡ good (record { differs = record { re = pos 420000; im = pos 60000 }; allowed = 1008518 })
 unfolding opened
-a3-00038 = refl
-
--- S-3, 00076-kindI-under-im-own
-a3-00076 : accountOf (bytes "source,va_re,va_im,vb_re,vb_im,vc_re,vc_im,tol,sweeps\nS,0,-699999,-350000,-606218,0,0,1,20\n\nfrom,to,phases,kind,p1,p2,p3,p4,p5,p6,p7,p8,p9,p10,p11,p12\nS,N1,AB,L,1000,1000,0,0,0,0,1000,1000,0,0,0,0\n\nnode,phase,kind,vn,p,q\nN1,A,I,1000000,70000,9000\n") (bytes "node,va_re,va_im,vb_re,vb_im,vc_re,vc_im\nS,0,-699999,-350000,-606218,0,0\nN1,0,-699999,-350000,-606218,0,0\n\nfrom,to,ia_re,ia_im,ib_re,ib_im,ic_re,ic_im,loss_p,loss_q\nS,N1,-900,-7000,0,0,0,0,6100,7900\n\nsweeps,source_p,source_q,drawn_p,drawn_q,lost_p,lost_q\n1,4899993000,629999100,4899993000,629999100,6100,7900\n") ≡ good (record { differs = record { re = negsuc 4980; im = negsuc 4980 }; allowed = 723701 })
-unfolding opened
-a3-00076 = refl
+a3-00057 = refl
 
 -- S-3, 00110-vn2000000-1400000-own
 a3-00110 : accountOf (bytes "source,va_re,va_im,vb_re,vb_im,vc_re,vc_im,tol,sweeps\nS,1400000,0,0,0,0,0,1,20\n\nfrom,to,phases,kind,p1,p2,p3,p4,p5,p6,p7,p8,p9,p10,p11,p12\n\nnode,phase,kind,vn,p,q\nS,A,P,2000000,3,-2\n") (bytes "node,va_re,va_im,vb_re,vb_im,vc_re,vc_im\nS,1400000,0,0,0,0,0\n\nfrom,to,ia_re,ia_im,ib_re,ib_im,ic_re,ic_im,loss_p,loss_q\n\nsweeps,source_p,source_q,drawn_p,drawn_q,lost_p,lost_q\n1,0,0,0,0,0,0\n") ≡ good (record { differs = record { re = negsuc 299999; im = pos 200000 }; allowed = 1400001 })
 unfolding opened
 a3-00110 = refl
 
--- S-3, 00140-sweeps-950000-0-own
-a3-00140 : accountOf (bytes "source,va_re,va_im,vb_re,vb_im,vc_re,vc_im,tol,sweeps\nS,720000,0,-360000,-623538,-360000,623538,0,40\n\nfrom,to,phases,kind,p1,p2,p3,p4,p5,p6,p7,p8,p9,p10,p11,p12\nS,N1,A,L,3000000,2000000,0,0,0,0,0,0,0,0,0,0\n\nnode,phase,kind,vn,p,q\nN1,A,P,950000,100000,20000\n") (bytes "node,va_re,va_im,vb_re,vb_im,vc_re,vc_im\nS,720000,0,-360000,-623538,-360000,623538\nN1,715241,-1945,0,0,0,0\n\nfrom,to,ia_re,ia_im,ib_re,ib_im,ic_re,ic_im,loss_p,loss_q\nS,N1,13974,-2834,0,0,0,0,60990136,40666436\n\nsweeps,source_p,source_q,drawn_p,drawn_q,lost_p,lost_q\n4,10061280000,2040480000,10000289864,1999813564,60990136,40666436\n") ≡ good (record { differs = record { re = pos 288730; im = negsuc 180845 }; allowed = 733996 })
+-- S-3, 00155-sweeps-960000-1000-own
+a3-00155 : accountOf (bytes "source,va_re,va_im,vb_re,vb_im,vc_re,vc_im,tol,sweeps\nS,720000,0,-360000,-623538,-360000,623538,1000,40\n\nfrom,to,phases,kind,p1,p2,p3,p4,p5,p6,p7,p8,p9,p10,p11,p12\nS,N1,A,L,3000000,2000000,0,0,0,0,0,0,0,0,0,0\n\nnode,phase,kind,vn,p,q\nN1,A,P,960000,100000,20000\n") (bytes "node,va_re,va_im,vb_re,vb_im,vc_re,vc_im\nS,720000,0,-360000,-623538,-360000,623538\nN1,715278,-1944,0,0,0,0\n\nfrom,to,ia_re,ia_im,ib_re,ib_im,ic_re,ic_im,loss_p,loss_q\nS,N1,13973,-2834,0,0,0,0,60988211,40650518\n\nsweeps,source_p,source_q,drawn_p,drawn_q,lost_p,lost_q\n2,10060560000,2040480000,10000088790,1999934340,60988211,40650518\n") ≡ good (record { differs = record { re = negsuc 422885; im = negsuc 175256 }; allowed = 34348031 })
 unfolding opened
-a3-00140 = refl
-
--- S-3, 00170-sweeps-980000-1-own
-a3-00170 : accountOf (bytes "source,va_re,va_im,vb_re,vb_im,vc_re,vc_im,tol,sweeps\nS,720000,0,-360000,-623538,-360000,623538,1,40\n\nfrom,to,phases,kind,p1,p2,p3,p4,p5,p6,p7,p8,p9,p10,p11,p12\nS,N1,A,L,3000000,2000000,0,0,0,0,0,0,0,0,0,0\n\nnode,phase,kind,vn,p,q\nN1,A,P,980000,100000,20000\n") (bytes "node,va_re,va_im,vb_re,vb_im,vc_re,vc_im\nS,720000,0,-360000,-623538,-360000,623538\nN1,715241,-1944,0,0,0,0\n\nfrom,to,ia_re,ia_im,ib_re,ib_im,ic_re,ic_im,loss_p,loss_q\nS,N1,13974,-2834,0,0,0,0,60990136,40666436\n\nsweeps,source_p,source_q,drawn_p,drawn_q,lost_p,lost_q\n3,10061280000,2040480000,10000287030,1999827538,60990136,40666436\n") ≡ good (record { differs = record { re = pos 288730; im = negsuc 180845 }; allowed = 767611 })
-unfolding opened
-a3-00170 = refl
+a3-00155 = refl
 
 -- S-3, 00200-sweeps-1010000-1000-own
 a3-00200 : accountOf (bytes "source,va_re,va_im,vb_re,vb_im,vc_re,vc_im,tol,sweeps\nS,720000,0,-360000,-623538,-360000,623538,1000,40\n\nfrom,to,phases,kind,p1,p2,p3,p4,p5,p6,p7,p8,p9,p10,p11,p12\nS,N1,A,L,3000000,2000000,0,0,0,0,0,0,0,0,0,0\n\nnode,phase,kind,vn,p,q\nN1,A,P,1010000,100000,20000\n") (bytes "node,va_re,va_im,vb_re,vb_im,vc_re,vc_im\nS,720000,0,-360000,-623538,-360000,623538\nN1,715278,-1944,0,0,0,0\n\nfrom,to,ia_re,ia_im,ib_re,ib_im,ic_re,ic_im,loss_p,loss_q\nS,N1,13973,-2834,0,0,0,0,60988211,40650518\n\nsweeps,source_p,source_q,drawn_p,drawn_q,lost_p,lost_q\n2,10060560000,2040480000,10000088790,1999934340,60988211,40650518\n") ≡ good (record { differs = record { re = negsuc 422885; im = negsuc 175256 }; allowed = 34348031 })
 unfolding opened
 a3-00200 = refl
 
--- S-3, 00234-moved-rand
-a3-00234 : accountOf (bytes "source,va_re,va_im,vb_re,vb_im,vc_re,vc_im,tol,sweeps\nM5,11911,1459,-6000,-10392,-5798,9915,5,50\n\nfrom,to,phases,kind,p1,p2,p3,p4,p5,p6,p7,p8,p9,p10,p11,p12\nM5,M1,ABC,L,31887,16192,0,0,0,0,32351,-43866,10631,6897,58975,45575\nM1,GBY,AB,R,-15,-3,0,0,0,0,0,0,0,0,0,0\n\nnode,phase,kind,vn,p,q\nM1,AB,P,20785,173,-41\n") (bytes "node,va_re,va_im,vb_re,vb_im,vc_re,vc_im\nM5,11911,1459,-6000,-10392,-5798,9915\nM1,11911,1451,-5997,-10394,-5793,9913\nGBY,10887,1328,-5882,-10200,0,0\n\nfrom,to,ia_re,ia_im,ib_re,ib_im,ic_re,ic_im,loss_p,loss_q\nM5,M1,567,604,-567,-604,0,0,4043,-1886\nM1,GBY,0,0,0,0,0,0,0,0\n\nsweeps,source_p,source_q,drawn_p,drawn_q,lost_p,lost_q\n29,17313541,-4098727,17308216,-4100317,4043,-1886\n") ≡ good (record { differs = record { re = pos 9132; im = pos 3172 }; allowed = 85290 })
+-- S-3, 00261-rand-own
+a3-00261 : accountOf (bytes "source,va_re,va_im,vb_re,vb_im,vc_re,vc_im,tol,sweeps\nS,1000000,0,-500000,-866000,-500000,866000,1,50\n\nfrom,to,phases,kind,p1,p2,p3,p4,p5,p6,p7,p8,p9,p10,p11,p12\nN1,N2,A,L,4162677,3190106,0,0,0,0,0,0,0,0,0,0\nN0,N1,A,L,6097582,9404403,0,0,0,0,0,0,0,0,0,0\nS,N0,A,L,8952019,5359031,0,0,0,0,0,0,0,0,0,0\n\nnode,phase,kind,vn,p,q\nN2,A,P,1414286,910478,-265658\n") (bytes "node,va_re,va_im,vb_re,vb_im,vc_re,vc_im\nS,1000000,0,-500000,-866000,-500000,866000\nN2,930734,-93844,0,0,0,0\nN1,946308,-76563,0,0,0,0\nN0,965293,-30615,0,0,0,0\n\nfrom,to,ia_re,ia_im,ib_re,ib_im,ic_re,ic_im,loss_p,loss_q\nN1,N2,43613,8090,0,0,0,0,819032152,627682593\nN0,N1,43613,8090,0,0,0,0,1199712125,1850341474\nS,N0,43613,8090,0,0,0,0,1761351741,1054432365\n\nsweeps,source_p,source_q,drawn_p,drawn_q,lost_p,lost_q\n8,43613000000,-8090000000,39832903982,-11622456432,3780096018,3532456432\n") ≡ good (record { differs = record { re = pos 272666; im = negsuc 124631 }; allowed = 1283097 })
 unfolding opened
-a3-00234 = refl
-
--- S-3, 00281-moved-alltol
-a3-00281 : accountOf (bytes "source,va_re,va_im,vb_re,vb_im,vc_re,vc_im,tol,sweeps\n3,770162,25333,-347002,-612005,-360000,623538,100,5\n\nfrom,to,phases,kind,p1,p2,p3,p4,p5,p6,p7,p8,p9,p10,p11,p12\n3,UN92WITP,AC,L,1,1,0,0,0,0,0,0,0,0,1,1\n\nnode,phase,kind,vn,p,q\nUN92WITP,CA,Z,1247077,58488,-15386\n") (bytes "node,va_re,va_im,vb_re,vb_im,vc_re,vc_im\n3,770162,25333,-347002,-612005,-360000,623538\nUN92WITP,770062,25233,0,0,-360100,623638\n\nfrom,to,ia_re,ia_im,ib_re,ib_im,ic_re,ic_im,loss_p,loss_q\n3,UN92WITP,4842,-1132,0,0,-4842,1132,0,0\n\nsweeps,source_p,source_q,drawn_p,drawn_q,lost_p,lost_q\n1,6149412464,-1617165226,6149638864,-1618133626,0,0\n") ≡ good (record { differs = record { re = negsuc 829369; im = pos 732813 }; allowed = 4130117 })
-unfolding opened
-a3-00281 = refl
+a3-00261 = refl
 
 -- S-3, 00335-rand-own
 a3-00335 : accountOf (bytes "source,va_re,va_im,vb_re,vb_im,vc_re,vc_im,tol,sweeps\n36,12000,0,-5817,-10496,-6000,10392,0,3\n\nfrom,to,phases,kind,p1,p2,p3,p4,p5,p6,p7,p8,p9,p10,p11,p12\n\nnode,phase,kind,vn,p,q\n36,AB,Z,20785,0,-1288\n36,BC,Z,20785,16,6\n") (bytes "node,va_re,va_im,vb_re,vb_im,vc_re,vc_im\n36,12000,0,-5817,-10496,-6000,10392\n\nfrom,to,ia_re,ia_im,ib_re,ib_im,ic_re,ic_im,loss_p,loss_q\n\nsweeps,source_p,source_q,drawn_p,drawn_q,lost_p,lost_q\n1,1629499,-126886750,1629499,-126886750,0,0\n") ≡ good (record { differs = record { re = pos 13478; im = negsuc 5967 }; allowed = 49386 })
 unfolding opened
 a3-00335 = refl
 
--- S-3, 00391-moved-alltol
-a3-00391 : accountOf (bytes "source,va_re,va_im,vb_re,vb_im,vc_re,vc_im,tol,sweeps\nS,166295,153600,188343,-150192,99801,-616,0,20\n\nfrom,to,phases,kind,p1,p2,p3,p4,p5,p6,p7,p8,p9,p10,p11,p12\nS,N0,BC,L,0,0,0,0,0,0,4727,1576,1576,-1576,4727,-4727\n\nnode,phase,kind,vn,p,q\nN0,C,Z,3081,0,-3\n") (bytes "node,va_re,va_im,vb_re,vb_im,vc_re,vc_im\nS,166295,153600,188343,-150192,99801,-616\nN0,0,0,188342,-150192,99800,-617\n\nfrom,to,ia_re,ia_im,ib_re,ib_im,ic_re,ic_im,loss_p,loss_q\nS,N0,0,0,0,0,19,3154,3173,-3135\n\nsweeps,source_p,source_q,drawn_p,drawn_q,lost_p,lost_q\n20,-46645,-314784058,-49818,-314780923,3173,-3135\n") ≡ good (record { differs = record { re = negsuc 51346; im = pos 6739 }; allowed = 103592 })
+-- S-3, 00420-rand-own
+a3-00420 : accountOf (bytes "source,va_re,va_im,vb_re,vb_im,vc_re,vc_im,tol,sweeps\nBOQ,-11774,1811,7292,9087,5313,-10760,20,1\n\nfrom,to,phases,kind,p1,p2,p3,p4,p5,p6,p7,p8,p9,p10,p11,p12\nBOQ,8P8X,ABC,R,8,-4,-15,0,0,0,0,0,0,0,0,0\n8P8X,E1CUQIZW,ABC,L,-252,-103,0,0,-78,63,-220,384,-143,81,-130,-372\nE1CUQIZW,SI3,ABC,L,37282,99442,15331,26536,46702,32568,64914,63293,0,0,93293,108656\nSI3,0,ABC,L,777066,-822928,212850,405470,427086,292518,482502,-959035,125154,201713,993925,417858\n0,1MB,ABC,D,58265,34410,5399084,4183925,9944251,8870877,7275927,2884466,0,0,0,0\nE1CUQIZW,9,ABC,L,257,285,0,0,115,54,234,264,48,94,151,220\n9,DH,ABC,D,406,240,6,18,22,24,13,11,0,0,0,0\nDH,G8U,BC,R,0,-10,1,0,0,0,0,0,0,0,0,0\nG8U,OLF,BC,R,0,4,-7,0,0,0,0,0,0,0,0,0\nOLF,QT,B,L,0,0,0,0,0,0,0,0,0,0,0,0\nQT,LBQ,B,L,0,0,0,0,0,0,6969,10342,0,0,0,0\nLBQ,ASW,B,L,0,0,0,0,0,0,85886,116343,0,0,0,0\nASW,UWG,B,L,0,0,0,0,0,0,37215,68519,0,0,0,0\nUWG,BS06,B,R,0,-13,0,0,0,0,0,0,0,0,0,0\nBS06,0V0,B,L,0,0,0,0,0,0,1246,1104,0,0,0,0\n0V0,BGO8C4UB,B,L,0,0,0,0,0,0,46244,-73866,0,0,0,0\nBGO8C4UB,191,B,L,0,0,0,0,0,0,782,-1188,0,0,0,0\n191,71F,B,L,0,0,0,0,0,0,0,0,0,0,0,0\n71F,FB,B,R,0,4,0,0,0,0,0,0,0,0,0,0\nFB,3MYH1KBT,B,L,0,0,0,0,0,0,7372892,-4239795,0,0,0,0\n\nnode,phase,kind,vn,p,q\nQT,B,Z,11574,0,-458\nG8U,C,Z,9478,0,0\n71F,B,I,10704,-4,6\n") (bytes "node,va_re,va_im,vb_re,vb_im,vc_re,vc_im\nBOQ,-11774,1811,7292,9087,5313,-10760\n8P8X,-12394,1906,7114,8865,4858,-9838\nE1CUQIZW,-12394,1906,7114,8865,4858,-9838\nSI3,-12394,1906,7114,8865,4858,-9838\n0,-12394,1906,7114,8865,4858,-9838\n1MB,-10189,6936,11521,4110,-1332,-11046\n9,-12394,1906,7114,8865,4858,-9838\nDH,-10198,6942,11532,4114,-1334,-11056\nG8U,0,0,10854,3872,-1342,-11126\nOLF,0,0,11132,3971,-1286,-10660\nQT,0,0,11132,3971,0,0\nLBQ,0,0,11132,3971,0,0\nASW,0,0,11132,3971,0,0\nUWG,0,0,11132,3971,0,0\nBS06,0,0,10295,3673,0,0\n0V0,0,0,10295,3673,0,0\nBGO8C4UB,0,0,10295,3673,0,0\n191,0,0,10295,3673,0,0\n71F,0,0,10295,3673,0,0\nFB,0,0,10559,3767,0,0\n3MYH1KBT,0,0,10559,3767,0,0\n\nfrom,to,ia_re,ia_im,ib_re,ib_im,ic_re,ic_im,loss_p,loss_q\nBOQ,8P8X,783,-2138,-783,2138,0,0,0,0\n8P8X,E1CUQIZW,783,-2138,-783,2138,0,0,0,0\nE1CUQIZW,SI3,0,0,0,0,0,0,0,0\nSI3,0,0,0,0,0,0,0,0,0\n0,1MB,0,0,0,0,0,0,0,0\nE1CUQIZW,9,783,-2138,-783,2138,0,0,0,0\n9,DH,0,0,-1325,3616,0,0,0,0\nDH,G8U,0,0,-1408,3842,0,0,0,0\nG8U,OLF,0,0,-1373,3746,0,0,0,0\nOLF,QT,0,0,-1373,3746,0,0,0,0\nQT,LBQ,0,0,-15,-60,0,0,0,0\nLBQ,ASW,0,0,-15,-60,0,0,45,75\nASW,UWG,0,0,-15,-60,0,0,0,0\nUWG,BS06,0,0,-16,-65,0,0,0,0\nBS06,0V0,0,0,-16,-65,0,0,0,0\n0V0,BGO8C4UB,0,0,-16,-65,0,0,16,-65\nBGO8C4UB,191,0,0,-16,-65,0,0,0,0\n191,71F,0,0,-16,-65,0,0,0,0\n71F,FB,0,0,0,0,0,0,0,0\nFB,3MYH1KBT,0,0,0,0,0,0,0,0\n\nsweeps,source_p,source_q,drawn_p,drawn_q,lost_p,lost_q\n1,-393943,-47164590,-407095,-47150603,61,10\n") ≡ good (record { differs = record { re = pos 14432; im = negsuc 17794 }; allowed = 515771 })
 unfolding opened
-a3-00391 = refl
-
--- S-3, 00447-rand-own
-a3-00447 : accountOf (bytes "source,va_re,va_im,vb_re,vb_im,vc_re,vc_im,tol,sweeps\nS,720000,0,-360000,-623520,-360000,623520,1,100\n\nfrom,to,phases,kind,p1,p2,p3,p4,p5,p6,p7,p8,p9,p10,p11,p12\nS,N0,ABC,L,5684381,40545940,1421095,10136485,0,0,5684381,40545940,0,0,5684381,40545940\n\nnode,phase,kind,vn,p,q\nN0,A,I,720000,343769,55350\nN0,BC,Z,1247077,0,-8398\nN0,AB,I,4000000,320790,135403\nN0,BC,Z,1247077,0,-32463\nN0,C,P,1028549,282040,204191\n") (bytes "node,va_re,va_im,vb_re,vb_im,vc_re,vc_im\nS,720000,0,-360000,-623520,-360000,623520\nN0,603344,-192439,-388554,-650801,-272516,606550\n\nfrom,to,ia_re,ia_im,ib_re,ib_im,ic_re,ic_im,loss_p,loss_q\nS,N0,51852,-21542,-5396,-596,1138,21736,2002292242,14282024572\n\nsweeps,source_p,source_q,drawn_p,drawn_q,lost_p,lost_q\n7,52790768640,27194719680,50788476398,12912695108,2002292242,14282024572\n") ≡ good (record { differs = record { re = pos 308977; im = pos 114931 }; allowed = 6206269 })
-unfolding opened
-a3-00447 = refl
+a3-00420 = refl
 
 -- S-3, 00513-rand-own
 a3-00513 : accountOf (bytes "source,va_re,va_im,vb_re,vb_im,vc_re,vc_im,tol,sweeps\nS8,371761,-394795,-530267,-113521,148721,514938,1000,50\n\nfrom,to,phases,kind,p1,p2,p3,p4,p5,p6,p7,p8,p9,p10,p11,p12\nS8,AB,ABC,L,1,0,0,0,0,0,0,1,0,0,0,0\nAB,90UL,ABC,L,0,-1,0,0,0,0,1,1,0,0,1,1\n90UL,UF,ABC,L,607791,1432290,155419,485757,181820,150626,657004,843494,0,0,801731,-1715242\nUF,UY8E,ABC,L,91787795,43959760,0,0,0,0,97596425,-98935559,27665482,-10218775,41317579,51915574\n\nnode,phase,kind,vn,p,q\nUF,AB,P,939260,601,-142\n") (bytes "node,va_re,va_im,vb_re,vb_im,vc_re,vc_im\nS8,371761,-394795,-530267,-113521,148721,514938\nAB,371761,-394795,-530267,-113521,148721,514938\n90UL,371761,-394795,-530267,-113521,148721,514938\nUF,371761,-394795,-530267,-113521,148721,514938\nUY8E,371761,-394795,-530267,-113521,148721,514938\n\nfrom,to,ia_re,ia_im,ib_re,ib_im,ic_re,ic_im,loss_p,loss_q\nS8,AB,65,-5,-65,5,0,0,0,0\nAB,90UL,65,-5,-65,5,0,0,0,0\n90UL,UF,65,-5,-65,5,0,0,350,550\nUF,UY8E,0,0,0,0,0,0,0,0\n\nsweeps,source_p,source_q,drawn_p,drawn_q,lost_p,lost_q\n1,60038190,-13772670,60038190,-13772670,350,550\n") ≡ good (record { differs = record { re = negsuc 62214; im = pos 426776 }; allowed = 1463727 })
@@ -170,17 +120,47 @@ a4-00060 : accountOf (bytes "source,va_re,va_im,vb_re,vb_im,vc_re,vc_im,tol,swee
 unfolding opened
 a4-00060 = refl
 
--- S-4, 00112-rand-own
-a4-00112 : accountOf (bytes "source,va_re,va_im,vb_re,vb_im,vc_re,vc_im,tol,sweeps\n8T,708,14,-306,-674,-377,628,5,5\n\nfrom,to,phases,kind,p1,p2,p3,p4,p5,p6,p7,p8,p9,p10,p11,p12\nLDE,A7QNCI8O,A,L,1412551,1190864,0,0,0,0,0,0,0,0,0,0\n8T,Q,A,L,2787,-5665,0,0,0,0,0,0,0,0,0,0\nDX,LDE,A,L,517883,434451,0,0,0,0,0,0,0,0,0,0\nQ,DX,A,R,16,0,0,0,0,0,0,0,0,0,0,0\nA7QNCI8O,PB0V,A,L,836390,712588,0,0,0,0,0,0,0,0,0,0\n\nnode,phase,kind,vn,p,q\nDX,A,I,822,173,-14\n8T,B,Z,758,0,0\nQ,A,P,1082,51,59\nA7QNCI8O,A,Z,822,0,0\nLDE,A,P,1125,0,0\nLDE,A,Z,717,0,0\nPB0V,A,P,822,1,1\nQ,A,Z,808,0,-17\n8T,BC,Z,1282,0,0\nA7QNCI8O,A,I,822,-11,-10\n8T,B,P,740,1,0\nDX,A,Z,833,29,2\n") (bytes "node,va_re,va_im,vb_re,vb_im,vc_re,vc_im\n8T,708,14,-306,-674,-377,628\nA7QNCI8O,1203,28,0,0,0,0\nQ,699,30,0,0,0,0\nLDE,891,31,0,0,0,0\nDX,777,33,0,0,0,0\nPB0V,1190,29,0,0,0,0\n\nfrom,to,ia_re,ia_im,ib_re,ib_im,ic_re,ic_im,loss_p,loss_q\nLDE,A7QNCI8O,-1281,1103,0,0,0,0,402981,340293\n8T,Q,28618,2444,0,0,0,0,218458,-479884\nDX,LDE,-1281,1103,0,0,0,0,147137,124461\nQ,DX,22950,3614,0,0,0,0,0,0\nA7QNCI8O,PB0V,86,-82,0,0,0,0,1200,980\n\nsweeps,source_p,source_q,drawn_p,drawn_q,lost_p,lost_q\n3,20395798,-1329594,19631351,-1322707,769776,-14150\n") ≡ good (record { differs = record { re = negsuc 18770; im = negsuc 4268 }; allowed = 458243 })
+-- S-4, 00148-rand-own
+a4-00148 : accountOf (bytes "source,va_re,va_im,vb_re,vb_im,vc_re,vc_im,tol,sweeps\nL3,716241,73475,-377334,-612507,-381947,610341,5,1\n\nfrom,to,phases,kind,p1,p2,p3,p4,p5,p6,p7,p8,p9,p10,p11,p12\nL3,D12WEMTH,ABC,R,2,15,5,0,0,0,0,0,0,0,0,0\nL3,1,ABC,R,9,14,-4,0,0,0,0,0,0,0,0,0\n\nnode,phase,kind,vn,p,q\nL3,AB,I,1247077,1481,416\n1,C,Z,749675,0,-3945\nL3,AB,P,1247077,128937,52164\n1,A,I,749675,117073,54228\n1,C,P,749675,7448,8136\nL3,B,P,720000,2403,2156\nD12WEMTH,AB,Z,1306980,-16513,21065\nD12WEMTH,A,Z,754585,0,-2806\nL3,CA,P,1728811,66,-16\nD12WEMTH,AB,I,1354919,250,138\nD12WEMTH,C,I,754585,5749,82\nD12WEMTH,A,Z,754585,5562,1035\n") (bytes "node,va_re,va_im,vb_re,vb_im,vc_re,vc_im\nL3,716241,73475,-377334,-612507,-381947,610341\nD12WEMTH,725307,74405,-416369,-675870,-394268,630029\n1,758931,77854,-413517,-671241,-372631,595455\n\nfrom,to,ia_re,ia_im,ib_re,ib_im,ic_re,ic_im,loss_p,loss_q\nL3,D12WEMTH,528,-1833,157,2131,-395,652,0,0\nL3,1,16273,-5602,0,0,1,1251,0,0\n\nsweeps,source_p,source_q,drawn_p,drawn_q,lost_p,lost_q\n1,25258515224,13616096786,25258085948,13616494998,0,0\n") ≡ good (record { differs = record { re = negsuc 812480; im = negsuc 1341970 }; allowed = 21509534 })
 unfolding opened
-a4-00112 = refl
-
--- S-4, 00180-moved-tol
-a4-00180 : accountOf (bytes "source,va_re,va_im,vb_re,vb_im,vc_re,vc_im,tol,sweeps\nLLG,392670,0,-196029,-339533,-254520,298211,1,20\n\nfrom,to,phases,kind,p1,p2,p3,p4,p5,p6,p7,p8,p9,p10,p11,p12\nLLG,CNKF5NKB,ABC,L,21888149,66386273,10970426,-38186866,0,0,65453601,-57078589,32704704,37739435,40775008,93964818\nCNKF5NKB,CZ,ABC,L,77509610,66180767,11732597,-26385260,26898983,39222590,88042340,75285713,14973385,15455876,53542276,24905699\n\nnode,phase,kind,vn,p,q\nCNKF5NKB,C,I,411902,28,-7\nCZ,C,P,392059,31,-4\n") (bytes "node,va_re,va_im,vb_re,vb_im,vc_re,vc_im\nLLG,392670,0,-196029,-339533,-254520,298211\nCNKF5NKB,392670,0,-195956,-339517,-254386,298287\nCZ,392706,10,-195939,-339515,-254342,298275\n\nfrom,to,ia_re,ia_im,ib_re,ib_im,ic_re,ic_im,loss_p,loss_q\nLLG,CNKF5NKB,0,0,0,0,-12,9,912,2109\nCNKF5NKB,CZ,0,0,0,0,-6,5,330,153\n\nsweeps,source_p,source_q,drawn_p,drawn_q,lost_p,lost_q\n6,5738139,-1287852,5736891,-1290118,1242,2262\n") ≡ good (record { differs = record { re = negsuc 28024; im = negsuc 223887 }; allowed = 1105368 })
-unfolding opened
-a4-00180 = refl
+a4-00148 = refl
 
 -- S-4, 00249-rand-own
 a4-00249 : accountOf (bytes "source,va_re,va_im,vb_re,vb_im,vc_re,vc_im,tol,sweeps\nKZ7X,1044035,1,1,-1951484,1499075,-374,609,10\n\nfrom,to,phases,kind,p1,p2,p3,p4,p5,p6,p7,p8,p9,p10,p11,p12\nKZ7X,PHFRF4EB,ABC,L,51,-18784070,77524248,-94950637,-284,100000000,-100000000,0,-1,-78162321,0,0\n\nnode,phase,kind,vn,p,q\nKZ7X,BC,P,1772955,-3000000,-3000000\nKZ7X,AB,P,3573656,1,3\n") (bytes "node,va_re,va_im,vb_re,vb_im,vc_re,vc_im\nKZ7X,1044035,1,1,-1951484,1499075,-374\nPHFRF4EB,1044035,1,1,-1951484,1499075,-374\n\nfrom,to,ia_re,ia_im,ib_re,ib_im,ic_re,ic_im,loss_p,loss_q\nKZ7X,PHFRF4EB,0,0,0,0,0,0,0,0\n\nsweeps,source_p,source_q,drawn_p,drawn_q,lost_p,lost_q\n1,-300000046706,-300000067990,-300000046706,-300000067990,0,0\n") ≡ good (record { differs = record { re = negsuc 85060; im = negsuc 183053 }; allowed = 477492590 })
 unfolding opened
 a4-00249 = refl
+
+-- S-5, 00002-k004s5-own
+a5-00002 : accountOf (bytes "source,va_re,va_im,vb_re,vb_im,vc_re,vc_im,tol,sweeps\nN1,719956,0,-359978,-623500,-359978,623500,1,40\n\nfrom,to,phases,kind,p1,p2,p3,p4,p5,p6,p7,p8,p9,p10,p11,p12\nN1,N2,ABC,L,141400,535300,36100,322500,36100,257200,141400,535300,36100,295500,141400,535300\nN2,N3R,ABC,D,12470,2400,28800,172800,28800,172800,28800,172800,0,0,0,0\nN3R,N3,ABC,R,0,0,0,12100,200,20,200,1460000,2840000,0,0,0\nN3,N4,ABC,L,190700,503500,60700,230200,59800,175100,193900,488500,61400,193100,192100,497000\n\nnode,phase,kind,vn,p,q\nN4,A,P,240000,637500,395087\nN4,B,P,240000,900000,435890\nN4,C,P,240000,1187500,390312\n") (bytes "node,va_re,va_im,vb_re,vb_im,vc_re,vc_im\nN1,719956,0,-359978,-623500,-359978,623500\nN2,716561,-1754,-361131,-619621,-356228,621920\nN3R,200969,-121711,-206237,-111118,9087,233494\nN3,212947,-128965,-221463,-119321,9824,252426\nN4,205721,-127485,-213079,-107227,25922,240140\n\nfrom,to,ia_re,ia_im,ib_re,ib_im,ic_re,ic_im,loss_p,loss_q\nN1,N2,114755,-55278,-131038,-99413,16283,154690,710520776,1617683311\nN2,N3R,146131,-294054,-450118,-6841,230733,509692,1795686313,10774124863\nN3R,N3,137911,-277513,-419172,-6371,213428,471465,0,0\nN3,N4,137911,-277513,-419172,-6371,213428,471465,7355513838,17029537434\n\nsweeps,source_p,source_q,drawn_p,drawn_q,lost_p,lost_q\n7,282361046670,151550875174,272499913157,122128981963,9861720927,29421345608\n\nto,tap_a,tap_b,tap_c\nN3,9,11,12\n") ≡ good (record { differs = record { re = negsuc 591517; im = pos 962482 }; allowed = 14429458 })
+unfolding opened
+a5-00002 = refl
+
+-- S-5, 00185-bracket-minus-1-own
+a5-00185 : accountOf (bytes "source,va_re,va_im,vb_re,vb_im,vc_re,vc_im,tol,sweeps\nS,1,0,1,0,1,0,1,20\n\nfrom,to,phases,kind,p1,p2,p3,p4,p5,p6,p7,p8,p9,p10,p11,p12\nS,N1,A,R,0,0,0,1,3,10000,100,0,0,0,0,0\n\nnode,phase,kind,vn,p,q\n") (bytes "node,va_re,va_im,vb_re,vb_im,vc_re,vc_im\nS,1,0,1,0,1,0\nN1,1,0,0,0,0,0\n\nfrom,to,ia_re,ia_im,ib_re,ib_im,ic_re,ic_im,loss_p,loss_q\nS,N1,0,0,0,0,0,0,0,0\n\nsweeps,source_p,source_q,drawn_p,drawn_q,lost_p,lost_q\n1,0,0,0,0,0,0\n\nto,tap_a,tap_b,tap_c\nN1,0,0,0\n") ≡ good (record { differs = record { re = pos 0; im = pos 0 }; allowed = 3 })
+unfolding opened
+a5-00185 = refl
+
+-- S-5, 00465-settled-at-other-12+1
+a5-00465 : accountOf (bytes "source,va_re,va_im,vb_re,vb_im,vc_re,vc_im,tol,sweeps\nS,700000,10,-340000,-640000,-380000,600000,1,40\n\nfrom,to,phases,kind,p1,p2,p3,p4,p5,p6,p7,p8,p9,p10,p11,p12\nR2,E,AC,L,500000,500000,0,0,0,0,0,0,0,0,500000,500000\nL1,R3,AB,R,5,-5,0,0,0,0,0,0,0,0,0,0\nL1,R2,AC,R,3,0,-2,12200,250,60,100,300000,100000,0,0,0\nR1,L1,ABC,L,300000,600000,100000,200000,90000,180000,300000,600000,80000,170000,300000,600000\nS,R1,ABC,R,0,0,0,12000,150,60,200,1460000,2840000,0,0,0\n\nnode,phase,kind,vn,p,q\nL1,A,P,720000,400000,100000\nL1,B,P,720000,400000,100000\nE,A,P,720000,400000,100000\nE,C,P,720000,400000,100000\nR3,B,P,720000,400000,100000\n") (bytes "node,va_re,va_im,vb_re,vb_im,vc_re,vc_im\nS,700000,10,-340000,-640000,-380000,600000\nE,732854,-5659,0,0,-387065,617061\nR3,745781,-3686,-332943,-615672,0,0\nR2,736280,-3639,0,0,-390633,618874\nL1,722475,-3571,-343347,-634912,-383309,607270\nR1,727273,10,-340000,-640000,-384810,607595\n\nfrom,to,ia_re,ia_im,ib_re,ib_im,ic_re,ic_im,loss_p,loss_q\nR2,E,54473,-14066,0,0,-17550,53814,318448833,318429844\nL1,R3,0,0,-39752,-43473,0,0,0,0\nL1,R2,54473,-14066,0,0,-17550,53814,0,0\nR1,L1,110809,-28450,-77094,-84311,-17885,54842,645425526,1284512864\nS,R1,110809,-28450,-77094,-84311,-17885,54842,0,0\n\nsweeps,source_p,source_q,drawn_p,drawn_q,lost_p,lost_q\n1,200962684420,51603251260,199999497791,50000755581,963874359,1602942708\n\nto,tap_a,tap_b,tap_c\nR3,5,-5,0\nR2,3,0,3\nR1,6,0,2\n") ≡ good (record { differs = record { re = negsuc 1234706; im = pos 358381 }; allowed = 12332813 })
+unfolding opened
+a5-00465 = refl
+
+-- S-5, 00639-relay-reported-11996-719900
+a5-00639 : accountOf (bytes "source,va_re,va_im,vb_re,vb_im,vc_re,vc_im,tol,sweeps\nS,720000,0,-360000,-623538,-360000,623538,1000,20\n\nfrom,to,phases,kind,p1,p2,p3,p4,p5,p6,p7,p8,p9,p10,p11,p12\nS,N0,A,L,500000,0,0,0,0,0,0,0,0,0,0,0\nN0,N1,A,R,0,0,0,11996,4,60,1,0,0,0,0,0\n\nnode,phase,kind,vn,p,q\nN1,A,P,720000,72000,0\n") (bytes "node,va_re,va_im,vb_re,vb_im,vc_re,vc_im\nS,720000,0,-360000,-623538,-360000,623538\nN0,719900,0,0,0,0,0\nN1,719900,0,0,0,0,0\n\nfrom,to,ia_re,ia_im,ib_re,ib_im,ic_re,ic_im,loss_p,loss_q\nS,N0,10001,0,0,0,0,0,5000500,0\nN0,N1,10001,0,0,0,0,0,0,0\n\nsweeps,source_p,source_q,drawn_p,drawn_q,lost_p,lost_q\n1,7200720000,0,7199719900,0,5000500,0\n\nto,tap_a,tap_b,tap_c\nN1,0,0,0\n") ≡ good (record { differs = record { re = negsuc 4280999; im = pos 0 }; allowed = 21463804 })
+unfolding opened
+a5-00639 = refl
+
+-- S-5, 00754-moved-tol
+a5-00754 : accountOf (bytes "source,va_re,va_im,vb_re,vb_im,vc_re,vc_im,tol,sweeps\nGO,-707285,-23776,328008,614958,380358,-610470,2,20\n\nfrom,to,phases,kind,p1,p2,p3,p4,p5,p6,p7,p8,p9,p10,p11,p12\nGO,Y,ABC,Y,1,1,12955063,16929057,17034300,18537857,6002645,12600687,0,0,0,0\n\nnode,phase,kind,vn,p,q\nY,B,Z,667762,0,-22\nY,AB,Z,2000001,53136,6833\nY,AB,I,1247077,753,687\n") (bytes "node,va_re,va_im,vb_re,vb_im,vc_re,vc_im\nGO,-707285,-23776,328008,614958,380358,-610470\nY,-706358,-20298,326559,610968,380358,-610470\n\nfrom,to,ia_re,ia_im,ib_re,ib_im,ic_re,ic_im,loss_p,loss_q\nGO,Y,-1560,-646,1557,648,0,0,8537635,10099020\n\nsweeps,source_p,source_q,drawn_p,drawn_q,lost_p,lost_q\n14,2027925136,325124872,2019390615,315024556,8537635,10099020\n\nto,tap_a,tap_b,tap_c\n") ≡ good (record { differs = record { re = negsuc 361547; im = pos 377337 }; allowed = 6957510 })
+unfolding opened
+a5-00754 = refl
+
+-- S-5, 00889-without-table
+a5-00889 : accountOf (bytes "source,va_re,va_im,vb_re,vb_im,vc_re,vc_im,tol,sweeps\n23B,720000,0,-393888,-629912,-377114,613340,2,2\n\nfrom,to,phases,kind,p1,p2,p3,p4,p5,p6,p7,p8,p9,p10,p11,p12\nLQ,LZ,C,L,0,0,0,0,0,0,0,0,0,0,422162,519404\n23B,R5N,ABC,L,-242935,-81847,0,0,0,0,-149466,-79933,0,0,-192314,114753\n23B,LQ,BC,L,0,0,0,0,0,0,1,-1,0,0,1,0\n\nnode,phase,kind,vn,p,q\nLQ,B,P,1045374,1284,981\n23B,C,Z,653300,0,-723\nR5N,C,P,720000,75719,58458\n23B,BC,I,1247077,7,4\nR5N,CA,Z,1287267,0,-3000\nLZ,C,I,792250,-9,19\nLQ,C,Z,720000,0,-252\nR5N,BC,P,1793998,153,65\nR5N,CA,Z,1473795,34568,8628\nLQ,C,Z,580377,119,23\nLQ,C,I,703772,21,10\nLZ,C,P,1018287,2309,304\n") (bytes "node,va_re,va_im,vb_re,vb_im,vc_re,vc_im\n23B,720000,0,-393888,-629912,-377114,613340\nLZ,0,0,0,0,-377093,613334\nR5N,720049,-16,-393888,-629912,-376952,613620\nLQ,0,0,-393888,-629912,-377114,613340\n\nfrom,to,ia_re,ia_im,ib_re,ib_im,ic_re,ic_im,loss_p,loss_q\nLQ,LZ,0,0,0,0,-129,295,4479,5421\n23B,R5N,1613,-1213,-3,-6,-197,14427,-4106091,2358705\n23B,LQ,0,0,-204,-77,-168,304,0,0\n\nsweeps,source_p,source_q,drawn_p,drawn_q,lost_p,lost_q\n2,10469145010,6214516884,10473246622,6212152758,-4101612,2364126\n") ≡ good (record { differs = record { re = negsuc 121281; im = negsuc 495603 }; allowed = 14005669 })
+unfolding opened
+a5-00889 = refl
+
+-- S-5, 01030-moved-alltol
+a5-01030 : accountOf (bytes "source,va_re,va_im,vb_re,vb_im,vc_re,vc_im,tol,sweeps\nPHD,12000,0,-5389,-10250,-5503,10058,2,3\n\nfrom,to,phases,kind,p1,p2,p3,p4,p5,p6,p7,p8,p9,p10,p11,p12\nPHD,CT,ABC,R,14,0,10,0,0,0,0,0,0,0,0,0\nPHD,V,ABC,L,226618,452627,0,0,0,0,122540,156151,84326,126786,333182,-322105\nPHD,QG,B,R,0,-10,0,10899,20000,1,100,0,0,0,0,0\n\nnode,phase,kind,vn,p,q\nCT,CA,Z,21879,0,1\nV,CA,Z,20785,0,-327\nQG,B,P,11455,31,2\nQG,B,P,11294,0,0\nPHD,B,P,12000,7,2\nCT,BC,P,32519,15,0\nPHD,B,I,10090,1255,-145\nCT,BC,P,24877,1980,-597\nPHD,BC,P,20785,37,8\nCT,A,I,12632,1,0\nPHD,C,Z,12000,7,4\nV,CA,P,20785,975,708\n") (bytes "node,va_re,va_im,vb_re,vb_im,vc_re,vc_im\nPHD,12000,0,-5389,-10250,-5503,10058\nCT,13153,-2,-5387,-10252,-5872,10731\nV,11734,-49,-5306,-10243,-5529,9815\nQG,0,0,-5074,-9649,0,0\n\nfrom,to,ia_re,ia_im,ib_re,ib_im,ic_re,ic_im,loss_p,loss_q\nPHD,CT,6,-4,3063,-9395,-3061,9399,0,0\nPHD,V,3238,-4218,0,0,-3238,4218,1582460,367276\nPHD,QG,0,0,-149,-243,0,0,0,0\n\nsweeps,source_p,source_q,drawn_p,drawn_q,lost_p,lost_q\n3,449945248,-33473723,448394759,-33827178,1582460,367276\n\nto,tap_a,tap_b,tap_c\nCT,14,0,10\nQG,0,-10,0\n") ≡ good (record { differs = record { re = negsuc 46289; im = negsuc 43823 }; allowed = 584930 })
+unfolding opened
+a5-01030 = refl

@@ -1,12 +1,17 @@
--- Trials by hand: refusals of a sweep behind the first, 31 of the check, P rows at zero voltage, and the first row where a number has two causes. Assumes nothing.
+-- Trials by hand: refusals of a sweep behind the first, 31 of the check, P rows at zero voltage, the first row where a number has two causes, and relays. Assumes nothing.
+use mathlib.Core.Bool.{false}
 use mathlib.Core.Path.{_≡_, refl}
+use lib.IntN.{pos}
 use Rattle.answers.specs.Answers.{good}
 use Rattle.answers.specs.declared.Refusal.the-variants.{CurrentDiffers, LoadBeyond, NotZero, PhaseAbsent, SecondTo, UnknownFrom, ZeroVoltage}
+use Rattle.equations.specs.Taps.{relayVoltage, wantsUp}
+use Rattle.feeder.specs.Feeder.{noTaps}
+use Rattle.integers.specs.Pairs.{0c}
 use Rattle.text.specs.Text.{bytes}
 use Rattle.ladder.specs.Study.{fitted, studyOf}
 use Rattle.ladder.specs.declared.Study.the-variants.{NoReport}
-use Rattle.report_check.specs.Check.{checkOf}
-use Rattle.report_check.specs.declared.Verdict.the-variants.{Fail}
+use Rattle.verdicts.specs.Check.{checkOf}
+use Rattle.verdicts.specs.declared.Verdict.the-variants.{Fail}
 use Rattle.trials.specs.Opened.{opened}
 
 -- a P row drops all of the voltage in sweep 1: in sweep 2 it acts as an impedance, and the I row beside it meets 30
@@ -30,7 +35,7 @@ unfolding opened
 check-31 = refl
 
 -- P rows at zero voltage take nothing, and do not meet 30
-zero-voltage : fitted (bytes "source,va_re,va_im,vb_re,vb_im,vc_re,vc_im,tol,sweeps\nS,0,0,0,0,0,0,1,20\n\nfrom,to,phases,kind,p1,p2,p3,p4,p5,p6,p7,p8,p9,p10,p11,p12\n\nnode,phase,kind,vn,p,q\nS,A,P,1,5,5\nS,BC,P,4000000,5,5\n") 1000000 ≡ good (record { text = bytes "node,va_re,va_im,vb_re,vb_im,vc_re,vc_im\nS,0,0,0,0,0,0\n\nfrom,to,ia_re,ia_im,ib_re,ib_im,ic_re,ic_im,loss_p,loss_q\n\nsweeps,source_p,source_q,drawn_p,drawn_q,lost_p,lost_q\n1,0,0,0,0,0,0\n"; sweeps = 1 })
+zero-voltage : fitted (bytes "source,va_re,va_im,vb_re,vb_im,vc_re,vc_im,tol,sweeps\nS,0,0,0,0,0,0,1,20\n\nfrom,to,phases,kind,p1,p2,p3,p4,p5,p6,p7,p8,p9,p10,p11,p12\n\nnode,phase,kind,vn,p,q\nS,A,P,1,5,5\nS,BC,P,4000000,5,5\n") 1000000 ≡ good (record { text = bytes "node,va_re,va_im,vb_re,vb_im,vc_re,vc_im\nS,0,0,0,0,0,0\n\nfrom,to,ia_re,ia_im,ib_re,ib_im,ic_re,ic_im,loss_p,loss_q\n\nsweeps,source_p,source_q,drawn_p,drawn_q,lost_p,lost_q\n1,0,0,0,0,0,0\n\nto,tap_a,tap_b,tap_c\n"; sweeps = 1 })
 unfolding opened
 zero-voltage = refl
 
@@ -74,3 +79,15 @@ unused-before-absent = refl
 absent-before-present : checkOf (bytes "source,va_re,va_im,vb_re,vb_im,vc_re,vc_im,tol,sweeps\nABB,720000,0,-360000,-623520,-360000,623520,146,20\n\nfrom,to,phases,kind,p1,p2,p3,p4,p5,p6,p7,p8,p9,p10,p11,p12\nABB,AC,A,L,1475022,744797,0,0,0,0,0,0,0,0,0,0\nABB,BCB,AB,L,969338,1863067,536517,518591,0,0,1459894,1641975,0,0,0,0\n\nnode,phase,kind,vn,p,q\nABB,B,I,1224000,17032,11322\nBCB,AB,P,1224000,-114056,1077974\n") (bytes "node,va_re,va_im,vb_re,vb_im,vc_re,vc_im\nABB,720000,0,-360000,-623520,-360000,623520\nAC,720000,0,0,0,0,0\nBCB,707609,-1470,-347580,-626803,0,0\n\nfrom,to,ia_re,ia_im,ib_re,ib_im,ic_re,ic_im,loss_p,loss_q\nABB,AC,0,0,0,0,0,2000000,-2,0\nABB,BCB,36807,80347,36807,80347,0,0,1059255658,1927561795\n\nsweeps,source_p,source_q,drawn_p,drawn_q,lost_p,lost_q\n3,-9344206080,110390590080,-10403093668,108463831754,1059255658,1927561796\n") ≡ Fail (CurrentDiffers 7)
 unfolding opened
 absent-before-present = refl
+
+-- ---- relays (02, S-5)
+-- a bandwidth of 199 counts by halves: 4·(11900² + 110²) is just above (2·12000 − 199)²
+odd-band : wantsUp (record { taps = noTaps; level = pos 12000; band = pos 199; potential = pos 1; current = pos 1; z = 0c }) (record { re = pos 11900; im = pos 110 }) ≡ false
+unfolding opened
+odd-band = refl
+
+-- the drop of 2.5 cV by a current ratio of 2 is rounded once, to 1
+drop-rounded-once : relayVoltage (record { taps = noTaps; level = pos 12000; band = pos 200; potential = pos 1; current = pos 2; z = record { re = pos 25; im = pos 0 } }) (record { re = pos 10; im = pos 0 }) (record { re = pos 1000000; im = pos 0 })
+    ≡ record { re = pos 9; im = pos 0 }
+unfolding opened
+drop-rounded-once = refl

@@ -12,4 +12,6 @@ pub mod StudyRefusals
 pub mod CheckPasses
 pub mod CheckRefusals
 pub mod SeveralRows
+pub mod TapStudies
+pub mod TapChecks
 pub mod Accounts

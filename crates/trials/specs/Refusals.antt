@@ -1,11 +1,11 @@
--- One trial for each refusal of each call, the smallest of the base's cases; 9 is in TooLong, and the check's 31 in ByHand. Assumes nothing.
+-- One trial for each refusal of each call, the smallest case of the first file that has it; 9 is in TooLong. Assumes nothing.
 use mathlib.Core.Path.{_≡_, refl}
-use Rattle.answers.specs.declared.Refusal.the-variants.{Layout, OutOfLimit, UnknownFrom, SecondTo, NotReached, PhaseAbsent, NotZero, ZeroVoltage, LoadBeyond, CurrentBeyond, VoltageBeyond, NotSettled, BufferShort, ReportLayout, NameDiffers, SourceDiffers, CurrentDiffers, VoltageOff, TotalDiffers}
+use Rattle.answers.specs.declared.Refusal.the-variants.{Layout, OutOfLimit, UnknownFrom, SecondTo, NotReached, PhaseAbsent, NotZero, ZeroVoltage, LoadBeyond, CurrentBeyond, VoltageBeyond, NotSettled, TapsMoving, BufferShort, ReportLayout, NameDiffers, SourceDiffers, CurrentDiffers, VoltageOff, TotalDiffers, TapDiffers}
 use Rattle.text.specs.Text.{bytes}
 use Rattle.ladder.specs.Study.{studyOf}
 use Rattle.ladder.specs.declared.Study.the-variants.{NoReport}
-use Rattle.report_check.specs.Check.{checkOf}
-use Rattle.report_check.specs.declared.Verdict.the-variants.{Fail}
+use Rattle.verdicts.specs.Check.{checkOf}
+use Rattle.verdicts.specs.declared.Verdict.the-variants.{Fail}
 use Rattle.trials.specs.Opened.{opened}
 
 -- 01194-both-xLF-dupline
@@ -48,6 +48,11 @@ check-30 : checkOf (bytes "source,va_re,va_im,vb_re,vb_im,vc_re,vc_im,tol,sweeps
 unfolding opened
 check-30 = refl
 
+-- S-4, 00116-edit
+check-31 : checkOf (bytes "source,va_re,va_im,vb_re,vb_im,vc_re,vc_im,tol,sweeps\n8T,708,14,-306,-674,-377,628,5,5\n\nfrom,to,phases,kind,p1,p2,p3,p4,p5,p6,p7,p8,p9,p10,p11,p12\nLDE,A7QNCI8O,A,L,1412551,1190864,0,0,0,0,0,0,0,0,0,0\n8T,Q,A,L,2787,-5665,0,0,0,0,0,0,0,0,0,0\nDX,LDE,A,L,517883,434451,0,0,0,0,0,0,0,0,0,0\nQ,DX,A,R,16,0,0,0,0,0,0,0,0,0,0,0\nA7QNCI8O,PB0V,A,L,836390,712588,0,0,0,0,0,0,0,0,0,0\n\nnode,phase,kind,vn,p,q\nDX,A,I,822,173,-14\n8T,B,Z,758,0,0\nQ,A,P,1082,51,59\nA7QNCI8O,A,Z,822,0,0\nLDE,A,P,1125,0,0\nLDE,A,Z,717,0,0\nPB0V,A,P,822,1,1\nQ,A,Z,808,0,-17\n8T,BC,Z,1282,0,0\nA7QNCI8O,A,I,822,-11,-10\n8T,B,P,740,1,0\nDX,A,Z,833,29,2\n") (bytes "node,va_re,va_im,vb_re,vb_im,vc_re,vc_im\n8T,708,14,-306,-674,-377,628\nA7QNCI8O,1203,28,0,0,0,0\nQ,-2000000,30,0,0,0,0\nLDE,891,31,0,0,0,0\nDX,777,33,0,0,0,0\nPB0V,1190,29,0,0,0,0\n\nfrom,to,ia_re,ia_im,ib_re,ib_im,ic_re,ic_im,loss_p,loss_q\nLDE,A7QNCI8O,-1281,1103,0,0,0,0,402981,340293\n8T,Q,28618,2444,0,0,0,0,218458,-479884\nDX,LDE,-1281,1103,0,0,0,0,147137,124461\nQ,DX,22950,3614,0,0,0,0,0,0\nA7QNCI8O,PB0V,86,-82,0,0,0,0,1200,980\n\nsweeps,source_p,source_q,drawn_p,drawn_q,lost_p,lost_q\n3,20395798,-1329594,19631351,-1322707,769776,-14150\n") ≡ Fail (LoadBeyond 0)
+unfolding opened
+check-31 = refl
+
 -- 00713-32-overflow
 check-32 : checkOf (bytes "source,va_re,va_im,vb_re,vb_im,vc_re,vc_im,tol,sweeps\nS,2000000,0,2000000,0,2000000,0,1000,5\n\nfrom,to,phases,kind,p1,p2,p3,p4,p5,p6,p7,p8,p9,p10,p11,p12\nS,N0,ABC,Y,1,1000000,0,0,0,0,0,0,0,0,0,0\nN0,N1,ABC,Y,1,1000000,0,0,0,0,0,0,0,0,0,0\nN1,N2,ABC,Y,1,1000000,0,0,0,0,0,0,0,0,0,0\nN2,N3,ABC,Y,1,1000000,0,0,0,0,0,0,0,0,0,0\nN3,N4,ABC,Y,1,1000000,0,0,0,0,0,0,0,0,0,0\nN4,N5,ABC,Y,1,1000000,0,0,0,0,0,0,0,0,0,0\n\nnode,phase,kind,vn,p,q\nN5,A,Z,2000000,3000000,0\n") (bytes "node,va_re,va_im,vb_re,vb_im,vc_re,vc_im\nS,2000000,0,2000000,0,2000000,0\nN0,2000000,0,2000000,0,2000000,0\nN1,2000000,0,2000000,0,2000000,0\nN2,2000000,0,2000000,0,2000000,0\nN3,2000000,0,2000000,0,2000000,0\nN4,2000000,0,2000000,0,2000000,0\nN5,2000000,0,2000000,0,2000000,0\n\nfrom,to,ia_re,ia_im,ib_re,ib_im,ic_re,ic_im,loss_p,loss_q\nS,N0,0,0,0,0,0,0,0,0\nN0,N1,0,0,0,0,0,0,0,0\nN1,N2,0,0,0,0,0,0,0,0\nN2,N3,0,0,0,0,0,0,0,0\nN3,N4,0,0,0,0,0,0,0,0\nN4,N5,0,0,0,0,0,0,0,0\n\nsweeps,source_p,source_q,drawn_p,drawn_q,lost_p,lost_q\n1,0,0,0,0,0,0\n") ≡ Fail (CurrentBeyond 0)
 unfolding opened
@@ -82,6 +87,11 @@ check-54 = refl
 check-55 : checkOf (bytes "source,va_re,va_im,vb_re,vb_im,vc_re,vc_im,tol,sweeps\nS,22,-36,6,-13,29,34,2,20\n\nfrom,to,phases,kind,p1,p2,p3,p4,p5,p6,p7,p8,p9,p10,p11,p12\n\nnode,phase,kind,vn,p,q\nS,C,I,1292,0,3\nS,B,P,476,0,-3\n") (bytes "node,va_re,va_im,vb_re,vb_im,vc_re,vc_im\nS,22,-36,6,-13,29,34\n\nfrom,to,ia_re,ia_im,ib_re,ib_im,ic_re,ic_im,loss_p,loss_q\n\nsweeps,source_p,source_q,drawn_p,drawn_q,lost_p,lost_q\n1,-7,-289469,-7,-289469,0,0\n") ≡ Fail TotalDiffers
 unfolding opened
 check-55 = refl
+
+-- S-5, 00483-wants-down-at-16
+check-56 : checkOf (bytes "source,va_re,va_im,vb_re,vb_im,vc_re,vc_im,tol,sweeps\nS,720000,0,-360000,-623538,-360000,623538,1,20\n\nfrom,to,phases,kind,p1,p2,p3,p4,p5,p6,p7,p8,p9,p10,p11,p12\nS,N1,A,R,16,0,0,1,0,60,100,0,0,0,0,0\n\nnode,phase,kind,vn,p,q\n") (bytes "node,va_re,va_im,vb_re,vb_im,vc_re,vc_im\nS,720000,0,-360000,-623538,-360000,623538\nN1,800000,0,0,0,0,0\n\nfrom,to,ia_re,ia_im,ib_re,ib_im,ic_re,ic_im,loss_p,loss_q\nS,N1,0,0,0,0,0,0,0,0\n\nsweeps,source_p,source_q,drawn_p,drawn_q,lost_p,lost_q\n1,0,0,0,0,0,0\n\nto,tap_a,tap_b,tap_c\nN1,16,0,0\n") ≡ Fail (TapDiffers 12)
+unfolding opened
+check-56 = refl
 
 -- 00507-ex-cut150
 study-10 : studyOf (bytes "source,va_re,va_im,vb_re,vb_im,vc_re,vc_im,tol,sweeps\nS,720000,0,-360000,-623538,-360000,623538,1,20\n\nfrom,to,phases,kind,p1,p2,p3,p4,p5,p6,p7,p8,p9,p") 1000000 ≡ NoReport (Layout 4)
@@ -143,7 +153,12 @@ study-34 : studyOf (bytes "source,va_re,va_im,vb_re,vb_im,vc_re,vc_im,tol,sweeps
 unfolding opened
 study-34 = refl
 
+-- S-5, 00233-down-from-16
+study-35 : studyOf (bytes "source,va_re,va_im,vb_re,vb_im,vc_re,vc_im,tol,sweeps\nS,720000,0,-360000,-623538,-360000,623538,1,20\n\nfrom,to,phases,kind,p1,p2,p3,p4,p5,p6,p7,p8,p9,p10,p11,p12\nS,N1,A,R,16,0,0,1,0,60,100,0,0,0,0,0\n\nnode,phase,kind,vn,p,q\n") 1000000 ≡ NoReport (TapsMoving 32)
+unfolding opened
+study-35 = refl
+
 -- 00010-source-alone-buf0
-study-40 : studyOf (bytes "source,va_re,va_im,vb_re,vb_im,vc_re,vc_im,tol,sweeps\nS,720000,0,-360000,-623538,-360000,623538,1,20\n\nfrom,to,phases,kind,p1,p2,p3,p4,p5,p6,p7,p8,p9,p10,p11,p12\n\nnode,phase,kind,vn,p,q\n") 0 ≡ NoReport (BufferShort 212)
+study-40 : studyOf (bytes "source,va_re,va_im,vb_re,vb_im,vc_re,vc_im,tol,sweeps\nS,720000,0,-360000,-623538,-360000,623538,1,20\n\nfrom,to,phases,kind,p1,p2,p3,p4,p5,p6,p7,p8,p9,p10,p11,p12\n\nnode,phase,kind,vn,p,q\n") 0 ≡ NoReport (BufferShort 234)
 unfolding opened
 study-40 = refl

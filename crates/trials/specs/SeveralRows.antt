@@ -4,8 +4,8 @@ use Rattle.answers.specs.declared.Refusal.the-variants.{OutOfLimit, UnknownFrom
 use Rattle.text.specs.Text.{bytes}
 use Rattle.ladder.specs.Study.{studyOf}
 use Rattle.ladder.specs.declared.Study.the-variants.{NoReport}
-use Rattle.report_check.specs.Check.{checkOf}
-use Rattle.report_check.specs.declared.Verdict.the-variants.{Fail}
+use Rattle.verdicts.specs.Check.{checkOf}
+use Rattle.verdicts.specs.declared.Verdict.the-variants.{Fail}
 use Rattle.trials.specs.Opened.{opened}
 
 -- S-4, 00013-11-source-row

@@ -6,207 +6,137 @@ use Rattle.ladder.specs.Study.{studyOf}
 use Rattle.ladder.specs.declared.Study.the-variants.{NoReport}
 use Rattle.trials.specs.Opened.{opened}
 
--- 00359-ex-cut2
-v00359 : studyOf (bytes "so") 1000000 ≡ NoReport (Layout 1)
+-- 00371-ex-cut14
+v00371 : studyOf (bytes "source,va_re,v") 1000000 ≡ NoReport (Layout 1)
 unfolding opened
-v00359 = refl
+v00371 = refl
 
--- 00369-ex-cut12
-v00369 : studyOf (bytes "source,va_re") 1000000 ≡ NoReport (Layout 1)
+-- 00386-ex-cut29
+v00386 : studyOf (bytes "source,va_re,va_im,vb_re,vb_i") 1000000 ≡ NoReport (Layout 1)
 unfolding opened
-v00369 = refl
+v00386 = refl
 
--- 00379-ex-cut22
-v00379 : studyOf (bytes "source,va_re,va_im,vb_") 1000000 ≡ NoReport (Layout 1)
+-- 00401-ex-cut44
+v00401 : studyOf (bytes "source,va_re,va_im,vb_re,vb_im,vc_re,vc_im,t") 1000000 ≡ NoReport (Layout 1)
 unfolding opened
-v00379 = refl
+v00401 = refl
 
--- 00389-ex-cut32
-v00389 : studyOf (bytes "source,va_re,va_im,vb_re,vb_im,v") 1000000 ≡ NoReport (Layout 1)
+-- 00416-ex-cut59
+v00416 : studyOf (bytes "source,va_re,va_im,vb_re,vb_im,vc_re,vc_im,tol,sweeps\nS,720") 1000000 ≡ NoReport (Layout 2)
 unfolding opened
-v00389 = refl
+v00416 = refl
 
--- 00399-ex-cut42
-v00399 : studyOf (bytes "source,va_re,va_im,vb_re,vb_im,vc_re,vc_im") 1000000 ≡ NoReport (Layout 1)
+-- 00431-ex-cut74
+v00431 : studyOf (bytes "source,va_re,va_im,vb_re,vb_im,vc_re,vc_im,tol,sweeps\nS,720000,0,-360000,-") 1000000 ≡ NoReport (Layout 2)
 unfolding opened
-v00399 = refl
+v00431 = refl
 
--- 00409-ex-cut52
-v00409 : studyOf (bytes "source,va_re,va_im,vb_re,vb_im,vc_re,vc_im,tol,sweep") 1000000 ≡ NoReport (Layout 1)
+-- 00446-ex-cut89
+v00446 : studyOf (bytes "source,va_re,va_im,vb_re,vb_im,vc_re,vc_im,tol,sweeps\nS,720000,0,-360000,-623538,-360000,") 1000000 ≡ NoReport (Layout 2)
 unfolding opened
-v00409 = refl
+v00446 = refl
 
--- 00419-ex-cut62
-v00419 : studyOf (bytes "source,va_re,va_im,vb_re,vb_im,vc_re,vc_im,tol,sweeps\nS,720000") 1000000 ≡ NoReport (Layout 2)
+-- 00461-ex-cut104
+v00461 : studyOf (bytes "source,va_re,va_im,vb_re,vb_im,vc_re,vc_im,tol,sweeps\nS,720000,0,-360000,-623538,-360000,623538,1,20\n\nfr") 1000000 ≡ NoReport (Layout 4)
 unfolding opened
-v00419 = refl
+v00461 = refl
 
--- 00429-ex-cut72
-v00429 : studyOf (bytes "source,va_re,va_im,vb_re,vb_im,vc_re,vc_im,tol,sweeps\nS,720000,0,-360000") 1000000 ≡ NoReport (Layout 2)
+-- 00476-ex-cut119
+v00476 : studyOf (bytes "source,va_re,va_im,vb_re,vb_im,vc_re,vc_im,tol,sweeps\nS,720000,0,-360000,-623538,-360000,623538,1,20\n\nfrom,to,phases,ki") 1000000 ≡ NoReport (Layout 4)
 unfolding opened
-v00429 = refl
+v00476 = refl
 
--- 00439-ex-cut82
-v00439 : studyOf (bytes "source,va_re,va_im,vb_re,vb_im,vc_re,vc_im,tol,sweeps\nS,720000,0,-360000,-623538,-") 1000000 ≡ NoReport (Layout 2)
+-- 00491-ex-cut134
+v00491 : studyOf (bytes "source,va_re,va_im,vb_re,vb_im,vc_re,vc_im,tol,sweeps\nS,720000,0,-360000,-623538,-360000,623538,1,20\n\nfrom,to,phases,kind,p1,p2,p3,p4,") 1000000 ≡ NoReport (Layout 4)
 unfolding opened
-v00439 = refl
+v00491 = refl
 
--- 00449-ex-cut92
-v00449 : studyOf (bytes "source,va_re,va_im,vb_re,vb_im,vc_re,vc_im,tol,sweeps\nS,720000,0,-360000,-623538,-360000,623") 1000000 ≡ NoReport (Layout 2)
+-- 00506-ex-cut149
+v00506 : studyOf (bytes "source,va_re,va_im,vb_re,vb_im,vc_re,vc_im,tol,sweeps\nS,720000,0,-360000,-623538,-360000,623538,1,20\n\nfrom,to,phases,kind,p1,p2,p3,p4,p5,p6,p7,p8,p9,") 1000000 ≡ NoReport (Layout 4)
 unfolding opened
-v00449 = refl
+v00506 = refl
 
--- 00459-ex-cut102
-v00459 : studyOf (bytes "source,va_re,va_im,vb_re,vb_im,vc_re,vc_im,tol,sweeps\nS,720000,0,-360000,-623538,-360000,623538,1,20\n\n") 1000000 ≡ NoReport (Layout 4)
+-- 00521-ex-cut164
+v00521 : studyOf (bytes "source,va_re,va_im,vb_re,vb_im,vc_re,vc_im,tol,sweeps\nS,720000,0,-360000,-623538,-360000,623538,1,20\n\nfrom,to,phases,kind,p1,p2,p3,p4,p5,p6,p7,p8,p9,p10,p11,p12\nS,N") 1000000 ≡ NoReport (Layout 5)
 unfolding opened
-v00459 = refl
+v00521 = refl
 
--- 00469-ex-cut112
-v00469 : studyOf (bytes "source,va_re,va_im,vb_re,vb_im,vc_re,vc_im,tol,sweeps\nS,720000,0,-360000,-623538,-360000,623538,1,20\n\nfrom,to,ph") 1000000 ≡ NoReport (Layout 4)
+-- 00536-ex-cut179
+v00536 : studyOf (bytes "source,va_re,va_im,vb_re,vb_im,vc_re,vc_im,tol,sweeps\nS,720000,0,-360000,-623538,-360000,623538,1,20\n\nfrom,to,phases,kind,p1,p2,p3,p4,p5,p6,p7,p8,p9,p10,p11,p12\nS,N1,A,L,1000000,0") 1000000 ≡ NoReport (Layout 5)
 unfolding opened
-v00469 = refl
+v00536 = refl
 
--- 00479-ex-cut122
-v00479 : studyOf (bytes "source,va_re,va_im,vb_re,vb_im,vc_re,vc_im,tol,sweeps\nS,720000,0,-360000,-623538,-360000,623538,1,20\n\nfrom,to,phases,kind,") 1000000 ≡ NoReport (Layout 4)
+-- 00551-ex-cut194
+v00551 : studyOf (bytes "source,va_re,va_im,vb_re,vb_im,vc_re,vc_im,tol,sweeps\nS,720000,0,-360000,-623538,-360000,623538,1,20\n\nfrom,to,phases,kind,p1,p2,p3,p4,p5,p6,p7,p8,p9,p10,p11,p12\nS,N1,A,L,1000000,0,0,0,0,0,0,0,0,") 1000000 ≡ NoReport (Layout 5)
 unfolding opened
-v00479 = refl
+v00551 = refl
 
--- 00489-ex-cut132
-v00489 : studyOf (bytes "source,va_re,va_im,vb_re,vb_im,vc_re,vc_im,tol,sweeps\nS,720000,0,-360000,-623538,-360000,623538,1,20\n\nfrom,to,phases,kind,p1,p2,p3,p") 1000000 ≡ NoReport (Layout 4)
+-- 00566-ex-cut209
+v00566 : studyOf (bytes "source,va_re,va_im,vb_re,vb_im,vc_re,vc_im,tol,sweeps\nS,720000,0,-360000,-623538,-360000,623538,1,20\n\nfrom,to,phases,kind,p1,p2,p3,p4,p5,p6,p7,p8,p9,p10,p11,p12\nS,N1,A,L,1000000,0,0,0,0,0,0,0,0,0,0,0\n\nnode,pha") 1000000 ≡ NoReport (Layout 7)
 unfolding opened
-v00489 = refl
+v00566 = refl
 
--- 00499-ex-cut142
-v00499 : studyOf (bytes "source,va_re,va_im,vb_re,vb_im,vc_re,vc_im,tol,sweeps\nS,720000,0,-360000,-623538,-360000,623538,1,20\n\nfrom,to,phases,kind,p1,p2,p3,p4,p5,p6,p7") 1000000 ≡ NoReport (Layout 4)
+-- 00582-ex-cut225
+v00582 : studyOf (bytes "source,va_re,va_im,vb_re,vb_im,vc_re,vc_im,tol,sweeps\nS,720000,0,-360000,-623538,-360000,623538,1,20\n\nfrom,to,phases,kind,p1,p2,p3,p4,p5,p6,p7,p8,p9,p10,p11,p12\nS,N1,A,L,1000000,0,0,0,0,0,0,0,0,0,0,0\n\nnode,phase,kind,vn,p,q\nN") 1000000 ≡ NoReport (Layout 8)
 unfolding opened
-v00499 = refl
+v00582 = refl
 
--- 00509-ex-cut152
-v00509 : studyOf (bytes "source,va_re,va_im,vb_re,vb_im,vc_re,vc_im,tol,sweeps\nS,720000,0,-360000,-623538,-360000,623538,1,20\n\nfrom,to,phases,kind,p1,p2,p3,p4,p5,p6,p7,p8,p9,p10") 1000000 ≡ NoReport (Layout 4)
+-- 00597-ex-cut240
+v00597 : studyOf (bytes "source,va_re,va_im,vb_re,vb_im,vc_re,vc_im,tol,sweeps\nS,720000,0,-360000,-623538,-360000,623538,1,20\n\nfrom,to,phases,kind,p1,p2,p3,p4,p5,p6,p7,p8,p9,p10,p11,p12\nS,N1,A,L,1000000,0,0,0,0,0,0,0,0,0,0,0\n\nnode,phase,kind,vn,p,q\nN1,A,P,720000,72") 1000000 ≡ NoReport (Layout 8)
 unfolding opened
-v00509 = refl
+v00597 = refl
 
--- 00519-ex-cut162
-v00519 : studyOf (bytes "source,va_re,va_im,vb_re,vb_im,vc_re,vc_im,tol,sweeps\nS,720000,0,-360000,-623538,-360000,623538,1,20\n\nfrom,to,phases,kind,p1,p2,p3,p4,p5,p6,p7,p8,p9,p10,p11,p12\nS") 1000000 ≡ NoReport (Layout 5)
+-- 00791-shape-q-'00'
+v00791 : studyOf (bytes "source,va_re,va_im,vb_re,vb_im,vc_re,vc_im,tol,sweeps\nS,720000,0,-360000,-623538,-360000,623538,1,20\n\nfrom,to,phases,kind,p1,p2,p3,p4,p5,p6,p7,p8,p9,p10,p11,p12\nS,N1,A,R,0,0,0,0,0,0,0,0,0,0,0,0\n\nnode,phase,kind,vn,p,q\nN1,A,P,720000,0,00\n") 1000000 ≡ NoReport (Layout 8)
 unfolding opened
-v00519 = refl
+v00791 = refl
 
--- 00529-ex-cut172
-v00529 : studyOf (bytes "source,va_re,va_im,vb_re,vb_im,vc_re,vc_im,tol,sweeps\nS,720000,0,-360000,-623538,-360000,623538,1,20\n\nfrom,to,phases,kind,p1,p2,p3,p4,p5,p6,p7,p8,p9,p10,p11,p12\nS,N1,A,L,10") 1000000 ≡ NoReport (Layout 5)
+-- 00806-shape-q-'+1'
+v00806 : studyOf (bytes "source,va_re,va_im,vb_re,vb_im,vc_re,vc_im,tol,sweeps\nS,720000,0,-360000,-623538,-360000,623538,1,20\n\nfrom,to,phases,kind,p1,p2,p3,p4,p5,p6,p7,p8,p9,p10,p11,p12\nS,N1,A,R,0,0,0,0,0,0,0,0,0,0,0,0\n\nnode,phase,kind,vn,p,q\nN1,A,P,720000,0,+1\n") 1000000 ≡ NoReport (Layout 8)
 unfolding opened
-v00529 = refl
+v00806 = refl
 
--- 00539-ex-cut182
-v00539 : studyOf (bytes "source,va_re,va_im,vb_re,vb_im,vc_re,vc_im,tol,sweeps\nS,720000,0,-360000,-623538,-360000,623538,1,20\n\nfrom,to,phases,kind,p1,p2,p3,p4,p5,p6,p7,p8,p9,p10,p11,p12\nS,N1,A,L,1000000,0,0,") 1000000 ≡ NoReport (Layout 5)
+-- 00821-shape-q-' 1'
+v00821 : studyOf (bytes "source,va_re,va_im,vb_re,vb_im,vc_re,vc_im,tol,sweeps\nS,720000,0,-360000,-623538,-360000,623538,1,20\n\nfrom,to,phases,kind,p1,p2,p3,p4,p5,p6,p7,p8,p9,p10,p11,p12\nS,N1,A,R,0,0,0,0,0,0,0,0,0,0,0,0\n\nnode,phase,kind,vn,p,q\nN1,A,P,720000,0, 1\n") 1000000 ≡ NoReport (Layout 8)
 unfolding opened
-v00539 = refl
+v00821 = refl
 
--- 00549-ex-cut192
-v00549 : studyOf (bytes "source,va_re,va_im,vb_re,vb_im,vc_re,vc_im,tol,sweeps\nS,720000,0,-360000,-623538,-360000,623538,1,20\n\nfrom,to,phases,kind,p1,p2,p3,p4,p5,p6,p7,p8,p9,p10,p11,p12\nS,N1,A,L,1000000,0,0,0,0,0,0,0,") 1000000 ≡ NoReport (Layout 5)
+-- 00846-shape-q-'-9999999999999999999'
+v00846 : studyOf (bytes "source,va_re,va_im,vb_re,vb_im,vc_re,vc_im,tol,sweeps\nS,720000,0,-360000,-623538,-360000,623538,1,20\n\nfrom,to,phases,kind,p1,p2,p3,p4,p5,p6,p7,p8,p9,p10,p11,p12\nS,N1,A,R,0,0,0,0,0,0,0,0,0,0,0,0\n\nnode,phase,kind,vn,p,q\nN1,A,P,720000,0,-9999999999999999999\n") 1000000 ≡ NoReport (Layout 8)
 unfolding opened
-v00549 = refl
+v00846 = refl
 
--- 00559-ex-cut202
-v00559 : studyOf (bytes "source,va_re,va_im,vb_re,vb_im,vc_re,vc_im,tol,sweeps\nS,720000,0,-360000,-623538,-360000,623538,1,20\n\nfrom,to,phases,kind,p1,p2,p3,p4,p5,p6,p7,p8,p9,p10,p11,p12\nS,N1,A,L,1000000,0,0,0,0,0,0,0,0,0,0,0\n\nn") 1000000 ≡ NoReport (Layout 7)
+-- 00866-shape-q-'1\r'
+v00866 : studyOf (bytes "source,va_re,va_im,vb_re,vb_im,vc_re,vc_im,tol,sweeps\nS,720000,0,-360000,-623538,-360000,623538,1,20\n\nfrom,to,phases,kind,p1,p2,p3,p4,p5,p6,p7,p8,p9,p10,p11,p12\nS,N1,A,R,0,0,0,0,0,0,0,0,0,0,0,0\n\nnode,phase,kind,vn,p,q\nN1,A,P,720000,0,1\r\n") 1000000 ≡ NoReport (Layout 8)
 unfolding opened
-v00559 = refl
+v00866 = refl
 
--- 00569-ex-cut212
-v00569 : studyOf (bytes "source,va_re,va_im,vb_re,vb_im,vc_re,vc_im,tol,sweeps\nS,720000,0,-360000,-623538,-360000,623538,1,20\n\nfrom,to,phases,kind,p1,p2,p3,p4,p5,p6,p7,p8,p9,p10,p11,p12\nS,N1,A,L,1000000,0,0,0,0,0,0,0,0,0,0,0\n\nnode,phase,") 1000000 ≡ NoReport (Layout 7)
+-- 00954-mangle-cut-cut
+v00954 : studyOf (bytes "") 1000000 ≡ NoReport (Layout 1)
 unfolding opened
-v00569 = refl
+v00954 = refl
 
--- 00579-ex-cut222
-v00579 : studyOf (bytes "source,va_re,va_im,vb_re,vb_im,vc_re,vc_im,tol,sweeps\nS,720000,0,-360000,-623538,-360000,623538,1,20\n\nfrom,to,phases,kind,p1,p2,p3,p4,p5,p6,p7,p8,p9,p10,p11,p12\nS,N1,A,L,1000000,0,0,0,0,0,0,0,0,0,0,0\n\nnode,phase,kind,vn,p,") 1000000 ≡ NoReport (Layout 7)
+-- 01092-mangle-head
+v01092 : studyOf (bytes "source,va_re,va_im,vb_re,vb_im,vc_re,vc_im,tol,sweeps\nTC,720000,0,-441244,-568949,-350375,606867,0,1\n\nfrom,to,phases,kind,p1,p2,p3,p4,p5,p6,p7,p8,p9,p10,p11,p12 \nZ62,SQE,ABC,R,9,-14,0,0,0,0,0,0,0,0,0,0\nTC,IQNQ,ABC,L,62383779,-65146111,0,0,37716582,16566651,60515958,24770083,13836296,11803754,77787247,-99289367\nTC,7WFJ,AC,R,5,0,5,0,0,0,0,0,0,0,0,0\n2,L0A,C,L,0,0,0,0,0,0,0,0,0,0,1141352,-785433\nSQE,LM,ABC,L,137009,-249528,97135,-66563,94934,-86958,80476,189356,0,0,255558,284759\nTC,OF,ABC,D,8883,1000,21191863,83459818,21573168,58279602,92882572,71425086,0,0,0,0\nSQE,S4,ABC,Y,1000000,87345,46941807,90272912,76190510,75827247,35844115,76589200,0,0,0,0\nTC,Z62,ABC,Y,3,1,31235096,28277960,32219033,26563035,17655242,15051665,0,0,0,0\nL0A,EJYY,C,L,0,0,0,0,0,0,0,0,0,0,51343570,49598899\n2,KY3BL3QH,ABC,L,742991,525664,303898,96605,127127,-97757,241152,515743,76386,309140,204354,636140\nZ62,2,ABC,D,34641,1000,4641,12755,5561,12005,6942,7030,0,0,0,0\nL0A,VP,C,R,0,0,9,0,0,0,0,0,0,0,0,0\n\nnode,phase,kind,vn,p,q\n2,B,P,12321,1,0\nEJYY,C,I,12000,108,24\nSQE,A,I,237526,45810,-6151\n7WFJ,C,I,743226,-8378,1537\nSQE,A,I,237526,2,2\nVP,C,I,11603,3556,175\nLM,C,Z,237526,41109,47661\nZ62,B,P,262682,3722,25\nOF,B,Z,123832,6,3\nKY3BL3QH,A,P,12000,585,179\nSQE,A,P,237526,401,60\nKY3BL3QH,B,Z,13780,38,-3\n") 1000000 ≡ NoReport (Layout 4)
 unfolding opened
-v00579 = refl
+v01092 = refl
 
--- 00590-ex-cut233
-v00590 : studyOf (bytes "source,va_re,va_im,vb_re,vb_im,vc_re,vc_im,tol,sweeps\nS,720000,0,-360000,-623538,-360000,623538,1,20\n\nfrom,to,phases,kind,p1,p2,p3,p4,p5,p6,p7,p8,p9,p10,p11,p12\nS,N1,A,L,1000000,0,0,0,0,0,0,0,0,0,0,0\n\nnode,phase,kind,vn,p,q\nN1,A,P,72") 1000000 ≡ NoReport (Layout 8)
+-- S-1, 00096-word-N
+v1-00096 : studyOf (bytes "source,va_re,va_im,vb_re,vb_im,vc_re,vc_im,tol,sweeps\nS,720000,0,-360000,-623538,-360000,623538,1,20\n\nfrom,to,phases,kind,p1,p2,p3,p4,p5,p6,p7,p8,p9,p10,p11,p12\nS,N1,ABC,L,0,0,0,0,0,0,0,0,0,0,0,0\n\nnode,phase,kind,vn,p,q\nN1,N,Z,720000,1,0\n") 1000000 ≡ NoReport (Layout 8)
 unfolding opened
-v00590 = refl
+v1-00096 = refl
 
--- 00600-ex-cut243
-v00600 : studyOf (bytes "source,va_re,va_im,vb_re,vb_im,vc_re,vc_im,tol,sweeps\nS,720000,0,-360000,-623538,-360000,623538,1,20\n\nfrom,to,phases,kind,p1,p2,p3,p4,p5,p6,p7,p8,p9,p10,p11,p12\nS,N1,A,L,1000000,0,0,0,0,0,0,0,0,0,0,0\n\nnode,phase,kind,vn,p,q\nN1,A,P,720000,72000") 1000000 ≡ NoReport (Layout 8)
+-- S-3, 00432-mangled
+v3-00432 : studyOf (bytes "source,va_re,va_im,vb_re,vb_im,vc_re,vc_im,tol,sweeps\nS,720000,0,-360000,-623520,-360000,623520,0,10\n\nfrom,to,phases,kind,p1,p2,p3,p4,p5,p6,p7,p8,p9,p10,p11,p12\nN0,N1,ABC,Y,900,1000,-11954978,15320566,-11954978,15320566,-11954978,15320566,0,0,0,0\nS,N0,ABC,L,-5516327,1761313,-1379082,440328,0,0,-5516327,1761313,0,0,-5516327,1761313\nN1,N2,a,L,-14216561,8776641,-3554141,-999999999999999999,0,0,-14216561,8776641,0,0,-14216561,8776641\n\nnode,phase,kind,vn,p,q\nN2,CA,P,1247077,617695,-23879\nN2,BC,P,02000000,588629,-188767\nN2,C,P,720000,618084,-9416\nN1,C,Z,720000,0,-149014\n") 1000000 ≡ NoReport (Layout 7)
 unfolding opened
-v00600 = refl
+v3-00432 = refl
 
--- 00789-shape-tap-'00'
-v00789 : studyOf (bytes "source,va_re,va_im,vb_re,vb_im,vc_re,vc_im,tol,sweeps\nS,720000,0,-360000,-623538,-360000,623538,1,20\n\nfrom,to,phases,kind,p1,p2,p3,p4,p5,p6,p7,p8,p9,p10,p11,p12\nS,N1,A,R,00,0,0,0,0,0,0,0,0,0,0,0\n\nnode,phase,kind,vn,p,q\nN1,A,P,720000,0,0\n") 1000000 ≡ NoReport (Layout 5)
+-- S-4, 00133-mangled
+v4-00133 : studyOf (bytes "source,va_re,va_im,vb_re,vb_im,vc_re,vc_im,tol,sweeps\nS,0,0,1,0,0,-1333332,0,100\n\nfrom,to,phases,kind,p1,p2,p3,p4,p5,p6,p7,p8,p9,p10,p11,p12\nS,N,A,R,0,0,-16,0,0,0,0,0,0,0,0,0\n\nnode,phase,kind,vn,p,q\nN,C,Z,2000000,44,45886650110989845") 1000000 ≡ NoReport (Layout 8)
 unfolding opened
-v00789 = refl
+v4-00133 = refl
 
--- 00799-shape-tap-'-01'
-v00799 : studyOf (bytes "source,va_re,va_im,vb_re,vb_im,vc_re,vc_im,tol,sweeps\nS,720000,0,-360000,-623538,-360000,623538,1,20\n\nfrom,to,phases,kind,p1,p2,p3,p4,p5,p6,p7,p8,p9,p10,p11,p12\nS,N1,A,R,-01,0,0,0,0,0,0,0,0,0,0,0\n\nnode,phase,kind,vn,p,q\nN1,A,P,720000,0,0\n") 1000000 ≡ NoReport (Layout 5)
+-- S-4, 00206-faults
+v4-00206 : studyOf (bytes "source,va_re,va_im,vb_re,vb_im,vc_re,vc_im,tol,sweeps\nB,-5015,10902,12159,-1763,-6934,-9794,20,20\nB,-5015,10902,12159,-1763,-6934,-9794,20,20\n\nfrom,to,phases,kind,p1,p2,p3,p4,p5,p6,p7,p8,p9,p10,p11,p12\n3J,EPJA,ABC,L,0,0,0,0,0,0,-1,1,0,0,-1,1\nHRB,C,ABC,L,70002942,-70975121,24058800,15549256,37179950,29530101,92079263,20634106,16623906,11363279,68995567,57371356\nB,HRB,ABC,Y,40,2400,0,0,1,0,1,1,0,0,0,0\nB,3J,ABC,L,1,1,0,0,0,0,1,0,0,0,0,-1\nHRB,CDU8X155,ABC,R,-14,9,2,0,0,0,0,0,0,0,10001,0\nHRB,ZJ6,BC,L,0,0,0,0,0,0,87610072,-51162135,8601776,-34138252,77522402,28955388\nHRB,D8CW,A,L,0,0,0,1,0,0,0,0,0,0,0,0\nHRB,253,ABC,L,46958999,24910415,0,0,32004083,32596260,45590409,-35822031,0,0,21131147,71157633\nEPJA,CL4,C,L,0,0,0,0,0,0,0,0,0,0,1,0\nEPJA,LZ,ABC,Y,1000,1000,95013727,57206590,34679537,40607619,47630659,88014446,0,0,0,0\nKDAL,B58VPIT8,C,L,0,0,0,0,0,0,0,0,0,0,64892586,87622013\nCL4,KDAL,C,L,0,0,0,0,0,0,0,0,0,0,67029305,25148624\n\nnode,phase,kind,vn,p,q\nEPJA,BC,I,18834,9,4\nCL4,C,P,25160,8,4\n") 1000000 ≡ NoReport (Layout 3)
 unfolding opened
-v00799 = refl
-
--- 00809-shape-tap-''
-v00809 : studyOf (bytes "source,va_re,va_im,vb_re,vb_im,vc_re,vc_im,tol,sweeps\nS,720000,0,-360000,-623538,-360000,623538,1,20\n\nfrom,to,phases,kind,p1,p2,p3,p4,p5,p6,p7,p8,p9,p10,p11,p12\nS,N1,A,R,,0,0,0,0,0,0,0,0,0,0,0\n\nnode,phase,kind,vn,p,q\nN1,A,P,720000,0,0\n") 1000000 ≡ NoReport (Layout 5)
-unfolding opened
-v00809 = refl
-
--- 00819-shape-tap-' 1'
-v00819 : studyOf (bytes "source,va_re,va_im,vb_re,vb_im,vc_re,vc_im,tol,sweeps\nS,720000,0,-360000,-623538,-360000,623538,1,20\n\nfrom,to,phases,kind,p1,p2,p3,p4,p5,p6,p7,p8,p9,p10,p11,p12\nS,N1,A,R, 1,0,0,0,0,0,0,0,0,0,0,0\n\nnode,phase,kind,vn,p,q\nN1,A,P,720000,0,0\n") 1000000 ≡ NoReport (Layout 5)
-unfolding opened
-v00819 = refl
-
--- 00834-shape-tap-'9999999999999999999'
-v00834 : studyOf (bytes "source,va_re,va_im,vb_re,vb_im,vc_re,vc_im,tol,sweeps\nS,720000,0,-360000,-623538,-360000,623538,1,20\n\nfrom,to,phases,kind,p1,p2,p3,p4,p5,p6,p7,p8,p9,p10,p11,p12\nS,N1,A,R,9999999999999999999,0,0,0,0,0,0,0,0,0,0,0\n\nnode,phase,kind,vn,p,q\nN1,A,P,720000,0,0\n") 1000000 ≡ NoReport (Layout 5)
-unfolding opened
-v00834 = refl
-
--- 00849-shape-tap-'000000000000000000'
-v00849 : studyOf (bytes "source,va_re,va_im,vb_re,vb_im,vc_re,vc_im,tol,sweeps\nS,720000,0,-360000,-623538,-360000,623538,1,20\n\nfrom,to,phases,kind,p1,p2,p3,p4,p5,p6,p7,p8,p9,p10,p11,p12\nS,N1,A,R,000000000000000000,0,0,0,0,0,0,0,0,0,0,0\n\nnode,phase,kind,vn,p,q\nN1,A,P,720000,0,0\n") 1000000 ≡ NoReport (Layout 5)
-unfolding opened
-v00849 = refl
-
--- 00864-shape-tap-'1\r'
-v00864 : studyOf (bytes "source,va_re,va_im,vb_re,vb_im,vc_re,vc_im,tol,sweeps\nS,720000,0,-360000,-623538,-360000,623538,1,20\n\nfrom,to,phases,kind,p1,p2,p3,p4,p5,p6,p7,p8,p9,p10,p11,p12\nS,N1,A,R,1\r,0,0,0,0,0,0,0,0,0,0,0\n\nnode,phase,kind,vn,p,q\nN1,A,P,720000,0,0\n") 1000000 ≡ NoReport (Layout 5)
-unfolding opened
-v00864 = refl
-
--- 00874-shape-tap-'\xb2'
-v00874 : studyOf (bytes "source,va_re,va_im,vb_re,vb_im,vc_re,vc_im,tol,sweeps\nS,720000,0,-360000,-623538,-360000,623538,1,20\n\nfrom,to,phases,kind,p1,p2,p3,p4,p5,p6,p7,p8,p9,p10,p11,p12\nS,N1,A,R,²,0,0,0,0,0,0,0,0,0,0,0\n\nnode,phase,kind,vn,p,q\nN1,A,P,720000,0,0\n") 1000000 ≡ NoReport (Layout 5)
-unfolding opened
-v00874 = refl
-
--- 00959-fault-11l-10src2-11b
-v00959 : studyOf (bytes "source,va_re,va_im,vb_re,vb_im,vc_re,vc_im,tol,sweeps\n70SDJZWH,-12218,797,7229,9578,4912,-11598,0,2\n70SDJZWH,-12218,797,7229,9578,4912,-11598,0,2\n\nfrom,to,phases,kind,p1,p2,p3,p4,p5,p6,p7,p8,p9,p10,p11,p12\n70SDJZWH,T,ABC,L,1,1,0,0,-29084176404649518,0,1,0,0,0,1,1\nT,VOHY,ABC,L,46107,21503,9140,10900,23743,-24447,29330,20110,0,0,47989,39962\nT,VFTJ,BC,L,0,0,0,0,0,0,2338,1319,636,-2163,4073,1687\n\nnode,phase,kind,vn,p,q\nVFTJ,B,Z,12000,0,0\nVFTJ,B,I,12659,50,31\n70SDJZWH,B,I,12000,41,4\n70SDJZWH,A,I,12000,4,4\nT,C,P,12000,0,0\n70SDJZWH,B,I,14223,0,0\nVFTJ,C,P,-999999999999999999,605,185\nVFTJ,B,I,12000,7,0\nT,C,P,12000,23,2\nVFTJ,C,Z,12000,0,-1\n70SDJZWH,C,Z,10171,1071,-233\nVOHY,C,Z,12843,10,11\nVOHY,B,P,10400,546,43\nVOHY,B,Z,11603,2077,579\nVFTJ,B,Z,13566,0,0\nVOHY,B,P,12292,450,238\nVOHY,A,P,12000,6,4\nT,B,Z,14282,3,2\n70SDJZWH,B,Z,10109,363,157\nVOHY,A,P,12000,0,0\nVFTJ,C,P,12000,3,3\nVOHY,C,P,12000,0,0\n70SDJZWH,A,Z,12000,0,-21\nVFTJ,B,Z,12000,0,0\nT,C,P,12000,430,369\n") 1000000 ≡ NoReport (Layout 3)
-unfolding opened
-v00959 = refl
-
--- 01058-fault-10num
-v01058 : studyOf (bytes "source,va_re,va_im,vb_re,vb_im,vc_re,vc_im,tol,sweeps\nG,717453,30475,-333214,-638254,-386137,607699,0,1\n\nfrom,to,phases,kind,p1,p2,p3,p4,p5,p6,p7,p8,p9,p10,p11,p12\nG,K9,ABC,L,7645776,26678677,0,0,12359378,8394887,27082232,-24433118,6389566,-12130009,27877669,1\r\n\nnode,phase,kind,vn,p,q\nG,B,Z,720000,42190,15913\nG,A,I,720000,104,102\nK9,C,P,720000,278,136\nG,C,I,604114,23137,2054\nG,A,I,720000,53,-6\n") 1000000 ≡ NoReport (Layout 5)
-unfolding opened
-v01058 = refl
-
--- S-1, 00094-word-ab
-v1-00094 : studyOf (bytes "source,va_re,va_im,vb_re,vb_im,vc_re,vc_im,tol,sweeps\nS,720000,0,-360000,-623538,-360000,623538,1,20\n\nfrom,to,phases,kind,p1,p2,p3,p4,p5,p6,p7,p8,p9,p10,p11,p12\nS,N1,ABC,L,0,0,0,0,0,0,0,0,0,0,0,0\n\nnode,phase,kind,vn,p,q\nN1,ab,Z,720000,1,0\n") 1000000 ≡ NoReport (Layout 8)
-unfolding opened
-v1-00094 = refl
-
--- S-1, 00501-faults
-v1-00501 : studyOf (bytes "source,va_re,va_im,vb_re,vb_im,vc_re,vc_im,tol,sweeps\nÄ,1207483,0,-539015,-1096862,-763944,896364,1,-999999999999999999\n\nfrom,to,phases,kind,p1,p2,p3,p4,p5,p6,p7,p8,p9,p10,p11,p12\nUJKX,W2OY,ABC,Y,100000,1000,45201361,56147314,34193216,88377464,70593683,24214118,0,0,0,0\n\nnode,phase,kind,vn,p,q\n") 1000000 ≡ NoReport (Layout 2)
-unfolding opened
-v1-00501 = refl
-
--- S-3, 00387-faults
-v3-00387 : studyOf (bytes "source,va_re,va_im,vb_re,vb_im,vc_re,vc_im,tol,sweeps\nRWY,544482,471104,154664,-703192,-673336,247214,20,20\n\nfrom,to,phases,kind,p1,p2,p3,p4,p5,p6,p7,p8,p9,p10,p11,p12\nZP,ZP,ABC,R,11,8,-6,0,0,0,0,0,0,0,0,0\nZP,ZP,B,D,2,1,0,0,0,0,0,0,0,0,0,0\n\nnode,phase,kind,vn,p,q\nZP,BC,Z,1275609,0,-11128\nZP,,I,720000,40592,28917\nZP,B,Z,720000,33816,12537\nZP,C,P,1024691,-1,-1592\n7O,B,I,2000001,70610,30642\n") 1000000 ≡ NoReport (Layout 10)
-unfolding opened
-v3-00387 = refl
-
--- S-4, 00110-faults
-v4-00110 : studyOf (bytes "source,va_re,va_im,vb_re,vb_im,vc_re,vc_im,tol,sweeps\nA5CC,102423,-217897,-239150,20183,145189,208712,1,20\n\nfrom,to,phases,kind,p1,p2,p3,p4,p5,p6,p7,p8,p9,p10,p11,p12\nA5CC,OL,ABC,Y,20000,1000,94174361,28140287,30875312,65734704,85454703,57173593,0,0,0,0\nEW,7,ABC,L,3790,3022,851,2224,2133,516,5468,3306,2018,596,4648,3009\nV0,EW,ABC,D,1000000,87338,1444,5732,3376,5720,1931,1835,0,0,0,0\nYC,JL,ABC,Z,59770239,92850453,0,0,0,0,66391842,97238014,15185456,29639100,55845006,-82119985\nA5CC,V0,ABC,L,350143,201128,141053,182113,75797,62508,428758,241361,188424,-93233,414944,276941\nA5CC,S3L,ABC,L,51979890,-49113017,33647814,-21154967,24077030,-38546522,93987146,74082021,0,0,41679269,52367293\nA5CC,YC,ABC,R,13,-11,16,0,0,0,0,0,0,0,0,0\nYC,Y95OAT8X,ABC,R,5,13,-9,0,0,0,0,0,0,0,0,0\n\nnode,phase,kind,vn,p,q\nA5CC,BC,I,415692,168,-50\nY95OAT8X,A,I,254826,-498,3063\nY95OAT8X,CA,Z,518481,0,-7\nA5CC,CA,P,612496,89,81\n7,C,P,34684,4221,2585\n") 1000000 ≡ NoReport (Layout 8)
-unfolding opened
-v4-00110 = refl
-
--- S-4, 00175-faults
-v4-00175 : studyOf (bytes "source,va_re,va_im,vb_re,vb_im,vc_re,vc_im,tol,sweeps\nS,240000,0,-120000,61943446163053661,-120000,207840,1,100\n\nfrom,to,phases,kind,p1,p2,p3,p4,p5,p6,p7,p8,p9,p10,p11,p12\nN1,N1,A,L,1214552,538722,0,0,0,0,0,0,0,0,0,0\nS,N0,A,R,0,0,0,0,0,0,0,0,0,0,0,-1\nN1,N2,D,R,0,0,0,1,0,0,0,0,0,0,0,0\n\nnode,phase,kind,vn,p,q\nN2,A,P,240000,527611,76700\nN2,A,Z,240000,0,-488924\n") 1000000 ≡ NoReport (Layout 7)
-unfolding opened
-v4-00175 = refl
-
--- S-4, 00274-faults
-v4-00274 : studyOf (bytes "source,va_re,va_im,vb_re,vb_im,vc_re,vc_im,tol,sweeps\nS,720000,0,-360000,-623520,-360000,623520,1,100\n\nfrom,to,phases,kind,p1,p2,p3,p4,p5,p6,p7,p8,p9,p10,p11,p12\nN0,N0,ABCA,L,-16155539,2980446,0,0,0,0,0,0,0,0,0,0\nS,N0,C,L,-13615917,4295466,0,0,0,0,0,0,0,0,0,0\n\nnode,phase,kind,vn,p,q\nN1,A,I,720000,813262,226249\nN0,A,Z,720000,0,-76557\n") 1000000 ≡ NoReport (Layout 5)
-unfolding opened
-v4-00274 = refl
+v4-00206 = refl

@@ -1,182 +1,142 @@
 -- Vectors: the study's other refusals. Assumes nothing.
 use mathlib.Core.Path.{_≡_, refl}
-use Rattle.answers.specs.declared.Refusal.the-variants.{OutOfLimit, SecondTo, NotReached, PhaseAbsent, NotZero, ZeroVoltage, LoadBeyond, CurrentBeyond, VoltageBeyond, NotSettled, BufferShort}
+use Rattle.answers.specs.declared.Refusal.the-variants.{OutOfLimit, UnknownFrom, PhaseAbsent, NotZero, LoadBeyond, VoltageBeyond, NotSettled, BufferShort}
 use Rattle.text.specs.Text.{bytes}
 use Rattle.ladder.specs.Study.{studyOf}
 use Rattle.ladder.specs.declared.Study.the-variants.{NoReport}
 use Rattle.trials.specs.Opened.{opened}
 
--- 00829-shape-tap-'999999999999999999'
-v00829 : studyOf (bytes "source,va_re,va_im,vb_re,vb_im,vc_re,vc_im,tol,sweeps\nS,720000,0,-360000,-623538,-360000,623538,1,20\n\nfrom,to,phases,kind,p1,p2,p3,p4,p5,p6,p7,p8,p9,p10,p11,p12\nS,N1,A,R,999999999999999999,0,0,0,0,0,0,0,0,0,0,0\n\nnode,phase,kind,vn,p,q\nN1,A,P,720000,0,0\n") 1000000 ≡ NoReport (OutOfLimit 5)
+-- 00853-shape-sweeps-'100000000000000000'
+v00853 : studyOf (bytes "source,va_re,va_im,vb_re,vb_im,vc_re,vc_im,tol,sweeps\nS,720000,0,-360000,-623538,-360000,623538,1,100000000000000000\n\nfrom,to,phases,kind,p1,p2,p3,p4,p5,p6,p7,p8,p9,p10,p11,p12\nS,N1,A,R,0,0,0,0,0,0,0,0,0,0,0,0\n\nnode,phase,kind,vn,p,q\nN1,A,P,720000,0,0\n") 1000000 ≡ NoReport (OutOfLimit 2)
 unfolding opened
-v00829 = refl
+v00853 = refl
 
--- 00889-24-L-absent-100000001
-v00889 : studyOf (bytes "source,va_re,va_im,vb_re,vb_im,vc_re,vc_im,tol,sweeps\nS,720000,0,-360000,-623538,-360000,623538,1,20\n\nfrom,to,phases,kind,p1,p2,p3,p4,p5,p6,p7,p8,p9,p10,p11,p12\nS,N1,A,L,0,0,0,0,0,0,100000001,0,0,0,0,0\n\nnode,phase,kind,vn,p,q\n") 1000000 ≡ NoReport (OutOfLimit 5)
+-- 00904-20-over-21
+v00904 : studyOf (bytes "source,va_re,va_im,vb_re,vb_im,vc_re,vc_im,tol,sweeps\nS,720000,0,-360000,-623538,-360000,623538,1,20\n\nfrom,to,phases,kind,p1,p2,p3,p4,p5,p6,p7,p8,p9,p10,p11,p12\nS,N,A,L,0,0,0,0,0,0,0,0,0,0,0,0\nS,N,A,L,0,0,0,0,0,0,0,0,0,0,0,0\nQ,M,A,L,0,0,0,0,0,0,0,0,0,0,0,0\n\nnode,phase,kind,vn,p,q\n") 1000000 ≡ NoReport (UnknownFrom 7)
 unfolding opened
-v00889 = refl
+v00904 = refl
 
--- 01168-fault-21
-v01168 : studyOf (bytes "source,va_re,va_im,vb_re,vb_im,vc_re,vc_im,tol,sweeps\nUR,720000,-518,-360000,-623538,-360000,623538,20,50\n\nfrom,to,phases,kind,p1,p2,p3,p4,p5,p6,p7,p8,p9,p10,p11,p12\nUR,V,ABC,D,104,1,1462,460,397,835,1153,599,0,0,0,0\nUR,I,A,L,102932,156900,0,0,0,0,0,0,0,0,0,0\nUR,EFM5,AB,R,-9,10,0,0,0,0,0,0,0,0,0,0\nUR,MH,ABC,R,11,-14,3,0,0,0,0,0,0,0,0,0\nV,V,ABC,D,106774,61646,1872,561,1962,854,946,2147,0,0,0,0\nUR,GQ2COIIZ,ABC,D,856084,2400,63682025,36659000,53010635,66612396,63981923,66660514,0,0,0,0\nV,SRD,ABC,L,1225,503,318,778,255,479,881,1315,518,823,1311,2120\nV,943ONCVC,ABC,L,4764,5068,0,0,1838,4006,4114,3010,1638,4004,10847,10778\n\nnode,phase,kind,vn,p,q\nI,A,P,720000,65,-50\nEFM5,B,I,722257,6519,747\nSRD,C,I,11991,136,59\n2M5,A,Z,11991,0,-5\nMH,A,I,596950,154,65\nEFM5,B,P,722257,8,1\n943ONCVC,C,P,10641,31,34\nUR,C,I,720000,6,1\n943ONCVC,A,Z,11991,0,0\n2M5,B,P,11991,2169,551\nMH,A,P,720000,108536,13556\nUR,B,P,720000,8,7\nV,A,I,11991,744,51\n2M5,C,Z,11991,0,0\nEFM5,B,I,690673,14773,-2093\nSRD,B,P,10742,1053,29\n943ONCVC,A,P,11991,0,0\nEFM5,A,P,722257,92,45\n943ONCVC,C,P,12888,0,0\nEFM5,A,Z,722257,37,7\nI,A,Z,720000,0,-11805\nSRD,B,P,11991,1045,-311\nUR,B,P,720000,-40314,-31341\nEFM5,B,P,606258,3658,-365\nUR,C,I,720000,102867,120181\n") 1000000 ≡ NoReport (SecondTo 9)
+-- 00960-fault-23y
+v00960 : studyOf (bytes "source,va_re,va_im,vb_re,vb_im,vc_re,vc_im,tol,sweeps\n5,1200000,0,-600000,-1039230,-586311,1015520,100,3\n\nfrom,to,phases,kind,p1,p2,p3,p4,p5,p6,p7,p8,p9,p10,p11,p12\nYP,GC,B,L,0,0,0,0,0,0,68345631,-57539714,0,0,0,0\n5,YP,C,Y,2,1,0,0,0,0,0,0,0,0,0,0\n\nnode,phase,kind,vn,p,q\n") 1000000 ≡ NoReport (PhaseAbsent 5)
 unfolding opened
-v01168 = refl
+v00960 = refl
 
--- 00900-23-Y-AB-z-absent
-v00900 : studyOf (bytes "source,va_re,va_im,vb_re,vb_im,vc_re,vc_im,tol,sweeps\nS,720000,0,-360000,-623538,-360000,623538,1,20\n\nfrom,to,phases,kind,p1,p2,p3,p4,p5,p6,p7,p8,p9,p10,p11,p12\nS,N1,AB,Y,1,1,0,0,5,0,0,0,1,0,0,0\n\nnode,phase,kind,vn,p,q\n") 1000000 ≡ NoReport (PhaseAbsent 5)
+-- 00951-fault-24t
+v00951 : studyOf (bytes "source,va_re,va_im,vb_re,vb_im,vc_re,vc_im,tol,sweeps\nFAHOMGFH,1211068,0,-601861,-1042454,-600000,1039230,100,1\n\nfrom,to,phases,kind,p1,p2,p3,p4,p5,p6,p7,p8,p9,p10,p11,p12\nFAHOMGFH,API5YOJ7,ABC,Y,5,4,0,0,0,0,0,0,0,0,0,-999999999999999999\nFAHOMGFH,VE,ABC,L,86863569,-92387477,18160104,-14281264,13665896,12947432,36347165,45549422,0,0,34139631,77674821\n\nnode,phase,kind,vn,p,q\nFAHOMGFH,A,P,1340570,111082,6528\nAPI5YOJ7,C,Z,1200000,0,-106\nAPI5YOJ7,C,I,1122028,1053,-106\nVE,C,P,1200000,541,-43\nVE,C,P,1200000,4952,-550\nVE,B,Z,1200000,51,13\nFAHOMGFH,B,P,1195459,-551,-360\nAPI5YOJ7,C,Z,1200000,0,-2942\n") 1000000 ≡ NoReport (NotZero 5)
 unfolding opened
-v00900 = refl
+v00951 = refl
 
--- 00879-24-R-p4-over-100000001
-v00879 : studyOf (bytes "source,va_re,va_im,vb_re,vb_im,vc_re,vc_im,tol,sweeps\nS,720000,0,-360000,-623538,-360000,623538,1,20\n\nfrom,to,phases,kind,p1,p2,p3,p4,p5,p6,p7,p8,p9,p10,p11,p12\nS,N1,ABC,R,0,0,0,100000001,0,0,0,0,0,0,0,0\n\nnode,phase,kind,vn,p,q\n") 1000000 ≡ NoReport (NotZero 5)
+-- 01098-wild
+v01098 : studyOf (bytes "source,va_re,va_im,vb_re,vb_im,vc_re,vc_im,tol,sweeps\nII,-2000000,0,-1,-741260,2000000,-3259,846,2\n\nfrom,to,phases,kind,p1,p2,p3,p4,p5,p6,p7,p8,p9,p10,p11,p12\nII,O31MMFFL,C,L,0,0,0,0,0,0,0,0,0,0,253333,147050\nO31MMFFL,7,C,R,0,0,-1,0,0,0,0,0,0,0,0,0\n\nnode,phase,kind,vn,p,q\nII,B,I,49874,479946,-3000000\nII,C,P,50,-114352,-1427271\n7,C,P,221180,1661,204\n") 1000000 ≡ NoReport (LoadBeyond 1)
 unfolding opened
-v00879 = refl
+v01098 = refl
 
--- 00891-24-R-absent-tap-1
-v00891 : studyOf (bytes "source,va_re,va_im,vb_re,vb_im,vc_re,vc_im,tol,sweeps\nS,720000,0,-360000,-623538,-360000,623538,1,20\n\nfrom,to,phases,kind,p1,p2,p3,p4,p5,p6,p7,p8,p9,p10,p11,p12\nS,N1,A,R,0,1,0,0,0,0,0,0,0,0,0,0\n\nnode,phase,kind,vn,p,q\n") 1000000 ≡ NoReport (NotZero 5)
+-- 00927-wild
+v00927 : studyOf (bytes "source,va_re,va_im,vb_re,vb_im,vc_re,vc_im,tol,sweeps\nH,-1834942,-2000000,-1,2,2000000,-2000000,1000,100\n\nfrom,to,phases,kind,p1,p2,p3,p4,p5,p6,p7,p8,p9,p10,p11,p12\nH,PSSW,ABC,D,8,1,38383229,-59211796,-490,1,-100000000,1,0,0,0,0\nH,ZYAW,ABC,L,0,0,0,0,0,0,0,0,0,0,1,-1\nH,9,ABC,R,13,8,14,0,0,0,0,0,0,0,0,0\nPSSW,YF4VW2QZ,ABC,R,2,-9,-11,0,0,0,0,0,0,0,0,0\n\nnode,phase,kind,vn,p,q\nH,B,Z,1831536,-2705015,17675\nZYAW,C,P,2000000,-3000000,0\nH,B,I,720000,6041,-3448\nH,B,I,2000000,-1,-2859956\n9,C,Z,2000000,3000000,-71098\nH,A,Z,620637,0,-12\n9,A,Z,321587,-581025,-266092\nPSSW,A,I,4,-253514,-1\nZYAW,C,I,673396,255,-399\nYF4VW2QZ,B,I,5359,11,-5\nPSSW,C,P,6370,178,143\n9,A,I,369217,3000000,1344246\n") 1000000 ≡ NoReport (VoltageBeyond 0)
 unfolding opened
-v00891 = refl
+v00927 = refl
 
--- 00081-31-edge-q
-v00081 : studyOf (bytes "source,va_re,va_im,vb_re,vb_im,vc_re,vc_im,tol,sweeps\nS,100000,0,-360000,-623538,-360000,623538,1,20\n\nfrom,to,phases,kind,p1,p2,p3,p4,p5,p6,p7,p8,p9,p10,p11,p12\nS,N1,A,L,0,0,0,0,0,0,0,0,0,0,0,0\n\nnode,phase,kind,vn,p,q\nN1,A,Z,100000,0,-2000001\n") 1000000 ≡ NoReport (LoadBeyond 1)
+-- 00226-34-oscillates-buf347
+v00226 : studyOf (bytes "source,va_re,va_im,vb_re,vb_im,vc_re,vc_im,tol,sweeps\nS,720000,0,-360000,-623538,-360000,623538,0,100\n\nfrom,to,phases,kind,p1,p2,p3,p4,p5,p6,p7,p8,p9,p10,p11,p12\nS,N1,A,L,30000000,30000000,0,0,0,0,0,0,0,0,0,0\n\nnode,phase,kind,vn,p,q\nN1,A,P,720000,300000,100000\n") 347 ≡ NoReport (NotSettled 100)
 unfolding opened
-v00081 = refl
+v00226 = refl
 
--- 00132-32-J-reg-1800001
-v00132 : studyOf (bytes "source,va_re,va_im,vb_re,vb_im,vc_re,vc_im,tol,sweeps\nS,90000,0,90000,0,90000,0,1,20\n\nfrom,to,phases,kind,p1,p2,p3,p4,p5,p6,p7,p8,p9,p10,p11,p12\nS,N1,A,R,16,0,0,0,0,0,0,0,0,0,0,0\n\nnode,phase,kind,vn,p,q\nN1,A,P,100000,1800001,0\n") 1000000 ≡ NoReport (CurrentBeyond 1)
+-- 01043-good
+v01043 : studyOf (bytes "source,va_re,va_im,vb_re,vb_im,vc_re,vc_im,tol,sweeps\n4J,11995,-345,-6004,-10655,-6583,9748,2,1\n\nfrom,to,phases,kind,p1,p2,p3,p4,p5,p6,p7,p8,p9,p10,p11,p12\n4J,P9,ABC,L,19036146,-53599783,0,0,19813583,17763387,17259059,30499342,5529343,-7408983,23698746,22491899\nP9,RTM,ABC,L,37065130,34112045,31219893,39292008,10315460,-9999440,70864610,61328679,21987290,30422579,26476695,47734995\nRTM,4R,ABC,R,-9,-16,-12,0,0,0,0,0,0,0,0,0\n\nnode,phase,kind,vn,p,q\n4R,C,P,11141,0,0\nRTM,B,P,10537,5,-1\nP9,C,Z,12000,71,31\n") 1000000 ≡ NoReport (NotSettled 1)
 unfolding opened
-v00132 = refl
+v01043 = refl
 
--- 00182-33-sweep1-and-settled
-v00182 : studyOf (bytes "source,va_re,va_im,vb_re,vb_im,vc_re,vc_im,tol,sweeps\nS,2000000,0,-360000,-623538,-360000,623538,1,20\n\nfrom,to,phases,kind,p1,p2,p3,p4,p5,p6,p7,p8,p9,p10,p11,p12\nS,N1,A,L,-1000000,0,0,0,0,0,0,0,0,0,0,0\n\nnode,phase,kind,vn,p,q\nN1,A,P,720000,200,0\n") 1000000 ≡ NoReport (VoltageBeyond 1)
+-- 00018-source-loads-only-buf1
+v00018 : studyOf (bytes "source,va_re,va_im,vb_re,vb_im,vc_re,vc_im,tol,sweeps\nS,720000,0,-360000,-623538,-360000,623538,1,20\n\nfrom,to,phases,kind,p1,p2,p3,p4,p5,p6,p7,p8,p9,p10,p11,p12\n\nnode,phase,kind,vn,p,q\nS,A,P,720000,72000,5\nS,C,I,720000,-7,9\n") 1 ≡ NoReport (BufferShort 264)
 unfolding opened
-v00182 = refl
+v00018 = refl
 
--- 00093-31-sweep2
-v00093 : studyOf (bytes "source,va_re,va_im,vb_re,vb_im,vc_re,vc_im,tol,sweeps\nS,720000,0,-360000,-623538,-360000,623538,1,20\n\nfrom,to,phases,kind,p1,p2,p3,p4,p5,p6,p7,p8,p9,p10,p11,p12\nS,N1,A,L,71999900,0,0,0,0,0,0,0,0,0,0,0\n\nnode,phase,kind,vn,p,q\nN1,A,P,720000,720000,0\n") 1000000 ≡ NoReport (NotSettled 20)
+-- 00042-30-not-Z-buf1
+v00042 : studyOf (bytes "source,va_re,va_im,vb_re,vb_im,vc_re,vc_im,tol,sweeps\nS,0,0,-360000,-623538,-360000,623538,1,20\n\nfrom,to,phases,kind,p1,p2,p3,p4,p5,p6,p7,p8,p9,p10,p11,p12\nS,N1,A,L,0,0,0,0,0,0,0,0,0,0,0,0\n\nnode,phase,kind,vn,p,q\nN1,A,Z,720000,1,0\n") 1 ≡ NoReport (BufferShort 265)
 unfolding opened
-v00093 = refl
+v00042 = refl
 
--- 00229-34-tol0-limit100
-v00229 : studyOf (bytes "source,va_re,va_im,vb_re,vb_im,vc_re,vc_im,tol,sweeps\nS,720000,0,-360000,-623538,-360000,623538,0,100\n\nfrom,to,phases,kind,p1,p2,p3,p4,p5,p6,p7,p8,p9,p10,p11,p12\nS,N1,A,L,17000000,0,0,0,0,0,0,0,0,0,0,0\n\nnode,phase,kind,vn,p,q\nN1,A,P,720000,720000,0\n") 1000000 ≡ NoReport (NotSettled 100)
+-- 00069-31-edge-2000000-buf1
+v00069 : studyOf (bytes "source,va_re,va_im,vb_re,vb_im,vc_re,vc_im,tol,sweeps\nS,100000,0,-360000,-623538,-360000,623538,1,20\n\nfrom,to,phases,kind,p1,p2,p3,p4,p5,p6,p7,p8,p9,p10,p11,p12\nS,N1,A,L,0,0,0,0,0,0,0,0,0,0,0,0\n\nnode,phase,kind,vn,p,q\nN1,A,P,100000,2000000,0\n") 1 ≡ NoReport (BufferShort 303)
 unfolding opened
-v00229 = refl
-
--- 01007-hard-34less
-v01007 : studyOf (bytes "source,va_re,va_im,vb_re,vb_im,vc_re,vc_im,tol,sweeps\nS,1800000,0,-900000,-1558800,-900000,1558800,1,9\n\nfrom,to,phases,kind,p1,p2,p3,p4,p5,p6,p7,p8,p9,p10,p11,p12\nN1,N2,ABC,L,5605802,10226330,1401450,2556582,0,0,5605802,10226330,0,0,5605802,10226330\nN0,N1,ABC,L,20160563,51239153,5040140,12809788,0,0,20160563,51239153,0,0,20160563,51239153\nS,N0,ABC,L,17064727,39716712,4266181,9929178,0,0,17064727,39716712,0,0,17064727,39716712\n\nnode,phase,kind,vn,p,q\nN2,A,P,1800000,719942,53797\nN1,A,Z,1800000,0,-31765\nN2,B,P,1800000,709832,-131721\nN2,C,P,1800000,719178,-63200\n") 1000000 ≡ NoReport (NotSettled 9)
-unfolding opened
-v01007 = refl
-
--- 00011-source-alone-buf1
-v00011 : studyOf (bytes "source,va_re,va_im,vb_re,vb_im,vc_re,vc_im,tol,sweeps\nS,720000,0,-360000,-623538,-360000,623538,1,20\n\nfrom,to,phases,kind,p1,p2,p3,p4,p5,p6,p7,p8,p9,p10,p11,p12\n\nnode,phase,kind,vn,p,q\n") 1 ≡ NoReport (BufferShort 212)
-unfolding opened
-v00011 = refl
-
--- 00033-branch-no-load-buf275
-v00033 : studyOf (bytes "source,va_re,va_im,vb_re,vb_im,vc_re,vc_im,tol,sweeps\nS,720000,0,-360000,-623538,-360000,623538,1,20\n\nfrom,to,phases,kind,p1,p2,p3,p4,p5,p6,p7,p8,p9,p10,p11,p12\nS,N1,ABC,L,5,5,0,0,0,0,0,0,0,0,0,0\n\nnode,phase,kind,vn,p,q\n") 275 ≡ NoReport (BufferShort 276)
-unfolding opened
-v00033 = refl
-
--- 00068-31-edge-2000000-buf0
-v00068 : studyOf (bytes "source,va_re,va_im,vb_re,vb_im,vc_re,vc_im,tol,sweeps\nS,100000,0,-360000,-623538,-360000,623538,1,20\n\nfrom,to,phases,kind,p1,p2,p3,p4,p5,p6,p7,p8,p9,p10,p11,p12\nS,N1,A,L,0,0,0,0,0,0,0,0,0,0,0,0\n\nnode,phase,kind,vn,p,q\nN1,A,P,100000,2000000,0\n") 0 ≡ NoReport (BufferShort 281)
-unfolding opened
-v00068 = refl
+v00069 = refl
 
 -- 00098-32-sum-ok-buf1
-v00098 : studyOf (bytes "source,va_re,va_im,vb_re,vb_im,vc_re,vc_im,tol,sweeps\nS,100000,0,-360000,-623538,-360000,623538,1,20\n\nfrom,to,phases,kind,p1,p2,p3,p4,p5,p6,p7,p8,p9,p10,p11,p12\nS,N1,A,L,0,0,0,0,0,0,0,0,0,0,0,0\n\nnode,phase,kind,vn,p,q\nN1,A,P,100000,1500000,0\nN1,A,P,100000,500000,0\n") 1 ≡ NoReport (BufferShort 281)
+v00098 : studyOf (bytes "source,va_re,va_im,vb_re,vb_im,vc_re,vc_im,tol,sweeps\nS,100000,0,-360000,-623538,-360000,623538,1,20\n\nfrom,to,phases,kind,p1,p2,p3,p4,p5,p6,p7,p8,p9,p10,p11,p12\nS,N1,A,L,0,0,0,0,0,0,0,0,0,0,0,0\n\nnode,phase,kind,vn,p,q\nN1,A,P,100000,1500000,0\nN1,A,P,100000,500000,0\n") 1 ≡ NoReport (BufferShort 303)
 unfolding opened
 v00098 = refl
 
--- 00122-32-source-J-sum-free-buf361
-v00122 : studyOf (bytes "source,va_re,va_im,vb_re,vb_im,vc_re,vc_im,tol,sweeps\nS,100000,0,100000,0,100000,0,1,20\n\nfrom,to,phases,kind,p1,p2,p3,p4,p5,p6,p7,p8,p9,p10,p11,p12\nS,N1,A,L,0,0,0,0,0,0,0,0,0,0,0,0\nS,N2,A,L,0,0,0,0,0,0,0,0,0,0,0,0\nS,N3,A,L,0,0,0,0,0,0,0,0,0,0,0,0\n\nnode,phase,kind,vn,p,q\nN1,A,P,100000,2000000,0\nN2,A,P,100000,2000000,0\nN3,A,P,100000,2000000,0\n") 361 ≡ NoReport (BufferShort 362)
+-- 00121-32-source-J-sum-free-buf1
+v00121 : studyOf (bytes "source,va_re,va_im,vb_re,vb_im,vc_re,vc_im,tol,sweeps\nS,100000,0,100000,0,100000,0,1,20\n\nfrom,to,phases,kind,p1,p2,p3,p4,p5,p6,p7,p8,p9,p10,p11,p12\nS,N1,A,L,0,0,0,0,0,0,0,0,0,0,0,0\nS,N2,A,L,0,0,0,0,0,0,0,0,0,0,0,0\nS,N3,A,L,0,0,0,0,0,0,0,0,0,0,0,0\n\nnode,phase,kind,vn,p,q\nN1,A,P,100000,2000000,0\nN2,A,P,100000,2000000,0\nN3,A,P,100000,2000000,0\n") 1 ≡ NoReport (BufferShort 384)
 unfolding opened
-v00122 = refl
+v00121 = refl
 
--- 00150-32-J-D-buf0
-v00150 : studyOf (bytes "source,va_re,va_im,vb_re,vb_im,vc_re,vc_im,tol,sweeps\nS,100000,0,-100000,0,0,0,1,20\n\nfrom,to,phases,kind,p1,p2,p3,p4,p5,p6,p7,p8,p9,p10,p11,p12\nS,N1,ABC,D,1,1,0,0,0,0,0,0,0,0,0,0\n\nnode,phase,kind,vn,p,q\nN1,A,I,100000,1100000,0\nN1,B,I,200000,1100000,0\n") 0 ≡ NoReport (BufferShort 281)
+-- 00144-32-J-Y-half-buf1
+v00144 : studyOf (bytes "source,va_re,va_im,vb_re,vb_im,vc_re,vc_im,tol,sweeps\nS,200000,0,200000,0,200000,0,1,20\n\nfrom,to,phases,kind,p1,p2,p3,p4,p5,p6,p7,p8,p9,p10,p11,p12\nS,N1,ABC,Y,2,3,0,0,0,0,0,0,0,0,0,0\n\nnode,phase,kind,vn,p,q\nN1,A,Z,300000,0,3000000\n") 1 ≡ NoReport (BufferShort 301)
 unfolding opened
-v00150 = refl
+v00144 = refl
 
--- 00175-33-V0-D-ok-buf1
-v00175 : studyOf (bytes "source,va_re,va_im,vb_re,vb_im,vc_re,vc_im,tol,sweeps\nS,1999999,0,0,0,-1,0,1,20\n\nfrom,to,phases,kind,p1,p2,p3,p4,p5,p6,p7,p8,p9,p10,p11,p12\nS,N,ABC,D,1,1,0,0,0,0,0,0,0,0,0,0\n\nnode,phase,kind,vn,p,q\n") 1 ≡ NoReport (BufferShort 239)
+-- 00165-33-V0-reg-ok-buf1
+v00165 : studyOf (bytes "source,va_re,va_im,vb_re,vb_im,vc_re,vc_im,tol,sweeps\nS,1800000,0,1800000,0,1800000,0,1,20\n\nfrom,to,phases,kind,p1,p2,p3,p4,p5,p6,p7,p8,p9,p10,p11,p12\nS,N,A,R,16,0,0,0,0,0,0,0,0,0,0,0\n\nnode,phase,kind,vn,p,q\n") 1 ≡ NoReport (BufferShort 273)
 unfolding opened
-v00175 = refl
+v00165 = refl
 
--- 00201-33-edge-transformer-buf274
-v00201 : studyOf (bytes "source,va_re,va_im,vb_re,vb_im,vc_re,vc_im,tol,sweeps\nS,1000000,0,0,0,0,0,1000,20\n\nfrom,to,phases,kind,p1,p2,p3,p4,p5,p6,p7,p8,p9,p10,p11,p12\nS,N,ABC,Y,1000,2000,1000000,0,1000000,0,1000000,0,0,0,0,0\n\nnode,phase,kind,vn,p,q\nN,A,I,2000000,2000000,0\n") 274 ≡ NoReport (BufferShort 275)
+-- 00193-33-masked-transformer-buf1
+v00193 : studyOf (bytes "source,va_re,va_im,vb_re,vb_im,vc_re,vc_im,tol,sweeps\nS,1000000,0,0,0,0,0,10,20\n\nfrom,to,phases,kind,p1,p2,p3,p4,p5,p6,p7,p8,p9,p10,p11,p12\nS,L,ABC,L,-500000,0,0,0,0,0,0,0,0,0,0,0\nL,N,ABC,Y,1,2,5000000,0,0,0,0,0,0,0,0,0\n\nnode,phase,kind,vn,p,q\nN,A,Z,2000000,200,0\n") 1 ≡ NoReport (BufferShort 312)
 unfolding opened
-v00201 = refl
+v00193 = refl
 
--- 00259-tie-load-buf0
-v00259 : studyOf (bytes "source,va_re,va_im,vb_re,vb_im,vc_re,vc_im,tol,sweeps\nS,200000,0,-360000,-623538,-360000,623538,0,20\n\nfrom,to,phases,kind,p1,p2,p3,p4,p5,p6,p7,p8,p9,p10,p11,p12\nS,N1,A,L,0,0,0,0,0,0,0,0,0,0,0,0\n\nnode,phase,kind,vn,p,q\nN1,A,Z,200000,1,-1\nN1,A,P,200000,1,-1\nN1,A,I,200000,-1,1\n") 0 ≡ NoReport (BufferShort 275)
+-- 00216-tol-edge-1000-buf1
+v00216 : studyOf (bytes "source,va_re,va_im,vb_re,vb_im,vc_re,vc_im,tol,sweeps\nS,720000,0,-360000,-623538,-360000,623538,1000,1\n\nfrom,to,phases,kind,p1,p2,p3,p4,p5,p6,p7,p8,p9,p10,p11,p12\nS,N1,A,L,1000000,0,0,0,0,0,0,0,0,0,0,0\n\nnode,phase,kind,vn,p,q\nN1,A,P,720000,72000,0\n") 1 ≡ NoReport (BufferShort 311)
 unfolding opened
-v00259 = refl
+v00216 = refl
 
--- 00281-root-not-square-buf1
-v00281 : studyOf (bytes "source,va_re,va_im,vb_re,vb_im,vc_re,vc_im,tol,sweeps\nS,3,4,2,3,-1,1,0,20\n\nfrom,to,phases,kind,p1,p2,p3,p4,p5,p6,p7,p8,p9,p10,p11,p12\n\nnode,phase,kind,vn,p,q\nS,A,I,7,1,-1\nS,B,I,9,2,1\nS,C,I,3,1,1\n") 1 ≡ NoReport (BufferShort 203)
+-- 00267-tie-Y-buf1
+v00267 : studyOf (bytes "source,va_re,va_im,vb_re,vb_im,vc_re,vc_im,tol,sweeps\nS,1,-1,3,-3,5,-5,0,20\n\nfrom,to,phases,kind,p1,p2,p3,p4,p5,p6,p7,p8,p9,p10,p11,p12\nS,N,ABC,Y,2,1,0,0,0,0,0,0,0,0,0,0\n\nnode,phase,kind,vn,p,q\nN,A,Z,1,1,1\n") 1 ≡ NoReport (BufferShort 272)
 unfolding opened
-v00281 = refl
+v00267 = refl
 
--- 01042-tiny-buf
-v01042 : studyOf (bytes "source,va_re,va_im,vb_re,vb_im,vc_re,vc_im,tol,sweeps\nS,3108,718,3428,-946,69,-3528,7,50\n\nfrom,to,phases,kind,p1,p2,p3,p4,p5,p6,p7,p8,p9,p10,p11,p12\nS,N0,AC,L,-1667,1811,0,0,1667,-5002,0,0,0,0,-1667,1667\nN0,N1,AC,L,3434,3434,0,0,2064,3434,0,0,0,0,3434,5076\nN0,N2,AC,R,13,0,15,0,0,0,0,0,0,0,0,0\n\nnode,phase,kind,vn,p,q\nS,B,Z,10683,2,2\nN2,C,Z,18798,3,2\nS,B,I,967,-2,-1\nN1,C,Z,1103,2,3\nN0,A,I,65,-1,1\nN2,C,Z,3204,3,-1\n") 403 ≡ NoReport (BufferShort 404)
+-- 00288-name-S-equals-word-buf1
+v00288 : studyOf (bytes "source,va_re,va_im,vb_re,vb_im,vc_re,vc_im,tol,sweeps\nA,720000,0,-360000,-623538,-360000,623538,1,20\n\nfrom,to,phases,kind,p1,p2,p3,p4,p5,p6,p7,p8,p9,p10,p11,p12\nA,L,A,L,0,0,0,0,0,0,0,0,0,0,0,0\nL,P,A,L,0,0,0,0,0,0,0,0,0,0,0,0\n\nnode,phase,kind,vn,p,q\nP,A,P,5,0,0\n") 1 ≡ NoReport (BufferShort 312)
 unfolding opened
-v01042 = refl
+v00288 = refl
 
--- S-1, 00281-faults
-v1-00281 : studyOf (bytes "source,va_re,va_im,vb_re,vb_im,vc_re,vc_im,tol,sweeps\nS,0,0,0,-1924999,0,0,1,5\n\nfrom,to,phases,kind,p1,p2,p3,p4,p5,p6,p7,p8,p9,p10,p11,p12\nS,N,ABC,Y,5,4,0,0,0,0,0,0,0,-999999999999999999,0,0\n\nnode,phase,kind,vn,p,q\nN,A,Z,2000000,73,-34\nN,AB,Z,3464102,99,79\nN,A,Z,0,41,58\n") 1000000 ≡ NoReport (OutOfLimit 10)
+-- 01090-edgy-buf
+v01090 : studyOf (bytes "source,va_re,va_im,vb_re,vb_im,vc_re,vc_im,tol,sweeps\nS,-100000,0,-100000,0,-100000,0,50,10\n\nfrom,to,phases,kind,p1,p2,p3,p4,p5,p6,p7,p8,p9,p10,p11,p12\nS,N0,ABC,Y,3,2,0,0,0,0,0,0,0,0,0,0\n\nnode,phase,kind,vn,p,q\nN0,A,I,66667,266342,0\nN0,A,Z,66667,700561,3\nN0,A,I,66667,366429,0\n") 155 ≡ NoReport (BufferShort 314)
 unfolding opened
-v1-00281 = refl
+v01090 = refl
 
--- S-1, 00102-23-B-CA
-v1-00102 : studyOf (bytes "source,va_re,va_im,vb_re,vb_im,vc_re,vc_im,tol,sweeps\nS,720000,0,-360000,-623538,-360000,623538,1,20\n\nfrom,to,phases,kind,p1,p2,p3,p4,p5,p6,p7,p8,p9,p10,p11,p12\nS,N1,B,L,0,0,0,0,0,0,0,0,0,0,0,0\n\nnode,phase,kind,vn,p,q\nN1,CA,Z,720000,1,0\n") 1000000 ≡ NoReport (PhaseAbsent 8)
+-- S-1, 00086-vn-wye-0
+v1-00086 : studyOf (bytes "source,va_re,va_im,vb_re,vb_im,vc_re,vc_im,tol,sweeps\nS,720000,0,-360000,-623538,-360000,623538,1,20\n\nfrom,to,phases,kind,p1,p2,p3,p4,p5,p6,p7,p8,p9,p10,p11,p12\nS,N1,ABC,L,0,0,0,0,0,0,0,0,0,0,0,0\n\nnode,phase,kind,vn,p,q\nN1,A,Z,0,1,0\n") 1000000 ≡ NoReport (OutOfLimit 8)
 unfolding opened
-v1-00102 = refl
+v1-00086 = refl
 
--- S-1, 00137-30-equal-phases-I
-v1-00137 : studyOf (bytes "source,va_re,va_im,vb_re,vb_im,vc_re,vc_im,tol,sweeps\nS,500000,7,500000,7,0,0,1,20\n\nfrom,to,phases,kind,p1,p2,p3,p4,p5,p6,p7,p8,p9,p10,p11,p12\n\nnode,phase,kind,vn,p,q\nS,AB,I,720000,1,0\n") 1000000 ≡ NoReport (ZeroVoltage 1)
+-- S-1, 00104-23-C-BC
+v1-00104 : studyOf (bytes "source,va_re,va_im,vb_re,vb_im,vc_re,vc_im,tol,sweeps\nS,720000,0,-360000,-623538,-360000,623538,1,20\n\nfrom,to,phases,kind,p1,p2,p3,p4,p5,p6,p7,p8,p9,p10,p11,p12\nS,N1,C,L,0,0,0,0,0,0,0,0,0,0,0,0\n\nnode,phase,kind,vn,p,q\nN1,BC,Z,720000,1,0\n") 1000000 ≡ NoReport (PhaseAbsent 8)
 unfolding opened
-v1-00137 = refl
+v1-00104 = refl
 
--- S-1, 00174-32-cancel-1000001
-v1-00174 : studyOf (bytes "source,va_re,va_im,vb_re,vb_im,vc_re,vc_im,tol,sweeps\nS,50000,0,-50000,0,-50000,0,1,20\n\nfrom,to,phases,kind,p1,p2,p3,p4,p5,p6,p7,p8,p9,p10,p11,p12\nS,N,ABC,L,0,0,0,0,0,0,0,0,0,0,0,0\n\nnode,phase,kind,vn,p,q\nN,AB,P,100000,2000000,0\nN,A,P,50000,-999999,0\nN,B,P,50000,9,0\n") 1000000 ≡ NoReport (CurrentBeyond 1)
+-- S-1, 00270-rand
+v1-00270 : studyOf (bytes "source,va_re,va_im,vb_re,vb_im,vc_re,vc_im,tol,sweeps\nW,-63234,704085,653241,-302781,-588837,-414332,511,100\n\nfrom,to,phases,kind,p1,p2,p3,p4,p5,p6,p7,p8,p9,p10,p11,p12\nXKWI,S6,A,L,-100000000,0,0,0,0,0,0,0,0,0,0,0\nDHK8,EQRX,A,L,1,-2,0,0,0,0,0,0,0,0,0,0\nM08I,7,AC,L,6602002,4574798,0,0,2490885,1668857,0,0,0,0,3027569,5220803\nW,M08I,AC,L,-100000000,1,0,0,-14735,41188352,0,0,0,0,-100000000,1595975\nS6,ORX,A,L,17106400,60509728,0,0,0,0,0,0,0,0,0,0\n7,XKWI,AC,L,0,96415373,0,0,11558205,-1253345,0,0,0,0,-1,-100000000\nORX,DHK8,A,L,6719066,1930893,0,0,0,0,0,0,0,0,0,0\nEQRX,PVV97L39,A,L,100000000,80244067,0,0,0,0,0,0,0,0,0,0\n\nnode,phase,kind,vn,p,q\nM08I,A,Z,1,1,-588983\nDHK8,A,I,720000,25771,21751\nW,CA,P,2,-1086150,0\nXKWI,A,Z,86401,3000000,1\nDHK8,A,P,1,-2721546,3000000\nXKWI,CA,P,2163472,-1037419,3000000\nS6,A,P,720000,239,-39\nW,BC,Z,2,1,3000000\n") 1000000 ≡ NoReport (LoadBeyond 1)
 unfolding opened
-v1-00174 = refl
+v1-00270 = refl
 
--- S-1, 00504-rand
-v1-00504 : studyOf (bytes "source,va_re,va_im,vb_re,vb_im,vc_re,vc_im,tol,sweeps\nS,240000,0,-120000,-207840,-120000,207840,0,100\n\nfrom,to,phases,kind,p1,p2,p3,p4,p5,p6,p7,p8,p9,p10,p11,p12\nN0,N1,A,L,97883,52138,0,0,0,0,0,0,0,0,0,0\nS,N0,A,L,118399,141285,0,0,0,0,0,0,0,0,0,0\nN4,N5,A,L,53502,78779,0,0,0,0,0,0,0,0,0,0\nN3,N4,A,R,1,0,0,0,0,0,0,0,0,0,0,0\nN2,N3,A,L,131726,63391,0,0,0,0,0,0,0,0,0,0\nN1,N2,A,L,99374,244478,0,0,0,0,0,0,0,0,0,0\n\nnode,phase,kind,vn,p,q\nN5,A,P,240000,764210,312469\n") 1000000 ≡ NoReport (NotSettled 100)
+-- S-3, 00474-rand
+v3-00474 : studyOf (bytes "source,va_re,va_im,vb_re,vb_im,vc_re,vc_im,tol,sweeps\nUR,1197179,82239,-563876,-976662,-657708,1003703,0,22\n\nfrom,to,phases,kind,p1,p2,p3,p4,p5,p6,p7,p8,p9,p10,p11,p12\nUR,YG,ABC,D,17,1,1,-1,-13962334,-116,100000000,100000000,0,0,0,0\n\nnode,phase,kind,vn,p,q\nUR,B,P,1291765,-1,3000000\nYG,C,I,1447677,-3000000,-1802\nYG,A,I,2000000,843787,592935\nYG,AB,Z,415784,3,3\nYG,BC,I,389258,3449,162\n") 1000000 ≡ NoReport (VoltageBeyond 1)
 unfolding opened
-v1-00504 = refl
+v3-00474 = refl
 
--- S-3, 00476-faults
-v3-00476 : studyOf (bytes "source,va_re,va_im,vb_re,vb_im,vc_re,vc_im,tol,sweeps\nZ8,12888,125,-5554,-10638,-6000,10392,1000,50\n\nfrom,to,phases,kind,p1,p2,p3,p4,p5,p6,p7,p8,p9,p10,p11,p12\nZ8,OU,B,R,0,0,16,0,0,0,0,0,0,0,0,0\n\nnode,phase,kind,vn,p,q\nOU,B,I,12445,25,6\nZ8,CA,Z,23759,0,-21\nZ8,AB,I,20785,698,193\n") 1000000 ≡ NoReport (NotZero 5)
+-- S-3, 00464-rand
+v3-00464 : studyOf (bytes "source,va_re,va_im,vb_re,vb_im,vc_re,vc_im,tol,sweeps\n4J5UV1WJ,1147052,352521,-218065,-1172369,-878818,817116,20,10\n\nfrom,to,phases,kind,p1,p2,p3,p4,p5,p6,p7,p8,p9,p10,p11,p12\n4J5UV1WJ,RMHS,ABC,D,4820,2783,22209514,73150486,97030163,26418274,25167411,94280144,0,0,0,0\n4J5UV1WJ,J5RQAMRE,B,L,0,0,0,0,0,0,1,0,0,0,0,0\n4J5UV1WJ,5Y,ABC,L,88535707,30185722,0,0,0,0,64706476,-77919463,9397574,31693980,39643873,21235990\nJ5RQAMRE,2,B,R,0,-6,0,0,0,0,0,0,0,0,0,0\n4J5UV1WJ,ZR,ABC,L,0,0,0,0,0,0,1,1,0,0,1,0\nZR,T3,ABC,Y,3582,1000,27978215,51557592,82199318,21114486,29876373,68142617,0,0,0,0\nRMHS,47S,ABC,L,78659545,74437498,0,0,13032480,26774266,74637669,95841325,11993318,23288885,57695581,-22182303\n5Y,YL0GOKQP,ABC,Y,12000,2400,61582882,98551214,95600187,69886427,58639510,62207407,0,0,0,0\n4J5UV1WJ,9KF,ABC,D,20785,2400,0,1,0,1,0,0,0,0,0,0\nJ5RQAMRE,IF,B,L,0,0,0,0,0,0,0,0,0,0,0,0\nYL0GOKQP,LU,ABC,D,5,1,80442021,70226839,68704114,38507221,75502844,44559024,0,0,0,0\nLU,0,ABC,L,0,1,0,0,0,0,1,0,0,0,0,-1\n5Y,N3,ABC,R,-13,-6,12,0,0,0,0,0,0,0,0,0\nJ5RQAMRE,XIODCI2W,B,L,0,0,0,0,0,0,48966952,71478398,0,0,0,0\nZR,V,ABC,L,1,0,0,0,0,0,0,0,0,0,0,0\nJ5RQAMRE,QEFJNV4N,B,R,0,-14,0,0,0,0,0,0,0,0,0,0\nV,N,ABC,D,129157,74569,79607867,85524258,70703402,91739213,26851764,45723991,0,0,0,0\nYL0GOKQP,VNE,AB,R,8,-8,0,0,0,0,0,0,0,0,0,0\nQEFJNV4N,TOBB,B,R,0,-13,0,0,0,0,0,0,0,0,0,0\nRMHS,DLG9I9SZ,ABC,D,41572,240,17263080,12398451,10562527,4740430,11774601,4082681,0,0,0,0\n\nnode,phase,kind,vn,p,q\nDLG9I9SZ,CA,P,29648,14,12\nIF,B,P,1009025,36458,132750\n") 1000000 ≡ NoReport (NotSettled 10)
 unfolding opened
-v3-00476 = refl
+v3-00464 = refl
 
--- S-3, 00213-flips-840000-1
-v3-00213 : studyOf (bytes "source,va_re,va_im,vb_re,vb_im,vc_re,vc_im,tol,sweeps\nS,720000,0,-360000,-623538,-360000,623538,1,100\n\nfrom,to,phases,kind,p1,p2,p3,p4,p5,p6,p7,p8,p9,p10,p11,p12\nS,N1,A,L,30000000,0,0,0,0,0,0,0,0,0,0,0\n\nnode,phase,kind,vn,p,q\nN1,A,P,840000,300000,0\n") 1000000 ≡ NoReport (NotSettled 100)
+-- S-4, 00194-faults
+v4-00194 : studyOf (bytes "source,va_re,va_im,vb_re,vb_im,vc_re,vc_im,tol,sweeps\nS,1000000,0,-500000,-866000,-500000,866000,0,10\n\nfrom,to,phases,kind,p1,p2,p3,p4,p5,p6,p7,p8,p9,p10,p11,p12\nN0Q,N1,ABC,D,1657,1000,100000000,50637366,100000000,50637366,100000000,50637366,0,0,0,0\nS,N0,B,L,0,0,100000001,0,0,0,0,0,0,0,0,0\n\nnode,phase,kind,vn,p,q\nN1,A,P,1000000,164178,23761\nN1,B,I,1000000,164925,-17854\nN1,C,Z,1000000,160427,-42215\n") 1000000 ≡ NoReport (OutOfLimit 6)
 unfolding opened
-v3-00213 = refl
+v4-00194 = refl
 
--- S-3, 00430-rand
-v3-00430 : studyOf (bytes "source,va_re,va_im,vb_re,vb_im,vc_re,vc_im,tol,sweeps\nS,1000000,0,-500000,-866000,-500000,866000,1,50\n\nfrom,to,phases,kind,p1,p2,p3,p4,p5,p6,p7,p8,p9,p10,p11,p12\nS,N0,ABC,L,41289314,96417054,10322328,24104263,0,0,41289314,96417054,0,0,41289314,96417054\n\nnode,phase,kind,vn,p,q\nN0,AB,P,1732051,242843,-11638\nN0,B,P,1000000,223096,96623\nN0,CA,Z,1732051,0,-225952\nN0,C,P,1432875,222112,98864\nN0,AB,Z,1732051,0,-125256\n") 1000000 ≡ NoReport (NotSettled 50)
+-- S-4, 00224-faults
+v4-00224 : studyOf (bytes "source,va_re,va_im,vb_re,vb_im,vc_re,vc_im,tol,sweeps\nS,0,2000000,0,0,0,0,1,5\n\nfrom,to,phases,kind,p1,p2,p3,p4,p5,p6,p7,p8,p9,p10,p11,p12\nS,N,AC,D,2,1,0,0,0,0,0,0,0,0,0,0\n\nnode,phase,kind,vn,p,q\nN,BC,Z,3464102,-65,-10\n") 1000000 ≡ NoReport (PhaseAbsent 5)
 unfolding opened
-v3-00430 = refl
-
--- S-4, 00132-faults
-v4-00132 : studyOf (bytes "source,va_re,va_im,vb_re,vb_im,vc_re,vc_im,tol,sweeps\nS,0,0,1,0,0,-1333332,0,100\n\nfrom,to,phases,kind,p1,p2,p3,p4,p5,p6,p7,p8,p9,p10,p11,p12\nS,N,A,R,0,0,-16,0,0,0,0,0,0,0,0,0\n\nnode,phase,kind,vn,p,q\nN,C,Z,2000000,44,45886650110989845\n") 1000000 ≡ NoReport (OutOfLimit 8)
-unfolding opened
-v4-00132 = refl
-
--- S-4, 00011-22-04
-v4-00011 : studyOf (bytes "source,va_re,va_im,vb_re,vb_im,vc_re,vc_im,tol,sweeps\nS,720000,0,-360000,-623538,-360000,623538,1,20\n\nfrom,to,phases,kind,p1,p2,p3,p4,p5,p6,p7,p8,p9,p10,p11,p12\nN0,N0,A,L,0,0,0,0,0,0,0,0,0,0,0,0\nS,N1,A,L,0,0,0,0,0,0,0,0,0,0,0,0\nS,N2,A,L,0,0,0,0,0,0,0,0,0,0,0,0\nS,N3,A,L,0,0,0,0,0,0,0,0,0,0,0,0\nN4,N4,A,L,0,0,0,0,0,0,0,0,0,0,0,0\n\nnode,phase,kind,vn,p,q\n") 1000000 ≡ NoReport (NotReached 5)
-unfolding opened
-v4-00011 = refl
-
--- S-4, 00272-faults
-v4-00272 : studyOf (bytes "source,va_re,va_im,vb_re,vb_im,vc_re,vc_im,tol,sweeps\nS,1800000,0,-900000,-1558800,-900000,1558800,3,10\n\nfrom,to,phases,kind,p1,p2,p3,p4,p5,p6,p7,p8,p9,p10,p11,p12\nS,N0,ABC,Y,5,4,0,0,0,0,0,0,0,0,1,0\n\nnode,phase,kind,vn,p,q\nN0,CA,P,3117691,656011,845\nN0,B,Z,1800000,0,-3470\nN0,B,P,1800000,646547,111034\nN0,C,I,1800000,573080,319266\n") 1000000 ≡ NoReport (NotZero 5)
-unfolding opened
-v4-00272 = refl
-
--- S-4, 00195-rand
-v4-00195 : studyOf (bytes "source,va_re,va_im,vb_re,vb_im,vc_re,vc_im,tol,sweeps\n1M54P9OH,720000,0,-389289,-605685,-360000,623538,0,2\n\nfrom,to,phases,kind,p1,p2,p3,p4,p5,p6,p7,p8,p9,p10,p11,p12\n8PIXQFVR,R,ABC,L,0,0,0,0,0,0,1,0,0,0,1,1\nR,TF,ABC,L,39890531,47601757,0,0,25710864,-20987727,72549060,-62972868,0,0,73369309,-25042975\nR,EOWLR8RT,ABC,R,4,16,11,0,0,0,0,0,0,0,0,0\nI2T1IXMA,5O,A,L,4781676,-10077677,0,0,0,0,0,0,0,0,0,0\nUQ7F,O,AB,L,25469990,-38069995,0,0,0,0,98710296,36641872,0,0,0,0\nI2T1IXMA,JTA,A,L,1,0,0,0,0,0,0,0,0,0,0,0\n5O,2P0I,A,L,337647,565794,0,0,0,0,0,0,0,0,0,0\nAP20BLXO,UQ7F,AB,L,71877301,77918300,25866395,31696315,0,0,57176920,38329650,0,0,0,0\n1M54P9OH,AP20BLXO,AB,L,8042562,-5909589,7591428,-3945709,0,0,12738010,-19050760,0,0,0,0\n1M54P9OH,8PIXQFVR,ABC,D,249415,2400,58130,25152,45280,25022,34662,64511,0,0,0,0\n2P0I,6SSNPFTP,A,L,75611961,81189160,0,0,0,0,0,0,0,0,0,0\n8PIXQFVR,I2T1IXMA,A,R,7,0,0,0,0,0,0,0,0,0,0,0\n\nnode,phase,kind,vn,p,q\n2P0I,A,Z,11564,0,0\nI2T1IXMA,A,I,11180,1782,574\n2P0I,A,P,12549,33,-8\nEOWLR8RT,B,Z,12829,0,0\nUQ7F,AB,P,1823589,1559,1345\nUQ7F,A,Z,720000,64,-219\nI2T1IXMA,A,P,18106,18,15\nJTA,A,Z,12549,902,585\n1M54P9OH,CA,P,1410234,32,-2\nAP20BLXO,B,P,720000,108,26\n2P0I,A,P,12549,7,1\nAP20BLXO,AB,Z,3251466,330,-66\n8PIXQFVR,B,P,17373,61,59\n8PIXQFVR,C,I,12000,0,0\nUQ7F,B,P,1028572,5433,1861\nJTA,A,P,12549,28,1\n2P0I,A,P,12549,11,2\n2P0I,A,Z,12549,0,-63\nAP20BLXO,B,Z,720000,-37,1\nTF,A,P,12000,0,0\nJTA,A,P,12549,1670,2337\n2P0I,A,Z,10115,76,20\n2P0I,A,P,23404,391,15\nEOWLR8RT,BC,P,32766,15,17\nEOWLR8RT,BC,P,21545,469,493\n") 1000000 ≡ NoReport (NotSettled 2)
-unfolding opened
-v4-00195 = refl
+v4-00224 = refl

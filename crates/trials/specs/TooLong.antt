@@ -5,8 +5,8 @@ use lib.ListN.{replicate}
 use Rattle.answers.specs.declared.Refusal.the-variants.{TooLong, Layout}
 use Rattle.ladder.specs.Study.{studyOf}
 use Rattle.ladder.specs.declared.Study.the-variants.{NoReport}
-use Rattle.report_check.specs.Check.{checkOf}
-use Rattle.report_check.specs.declared.Verdict.the-variants.{Fail}
+use Rattle.verdicts.specs.Check.{checkOf}
+use Rattle.verdicts.specs.declared.Verdict.the-variants.{Fail}
 use Rattle.trials.specs.Opened.{opened}
 
 study-9 : studyOf (replicate 65537 65) 0 ≡ NoReport TooLong

@@ -36,8 +36,9 @@ real x = pair x (pos 0)
 abbrev pub load : LoadKind → ℤ → ℤ → ℤ → Load
 load k vn p q = record { node = 0; phase = OnA; kind = k; vn = vn; s = pair p q }
 
+-- at a fixed tap: its level is 0, and so are its band, ratios and compensator
 abbrev pub regulator : ℤ → Device
-regulator tap = Regulator (record { a = tap; b = pos 0; c = pos 0 })
+regulator tap = Regulator (record { taps = record { a = tap; b = pos 0; c = pos 0 }; level = pos 0; band = pos 0; potential = pos 0; current = pos 0; z = 0c })
 
 abbrev pub delta : Device
 delta = Transformer (record { connection = Delta; n = pos 12470; m = pos 2400; z = zero3 })

@@ -1,6 +1,7 @@
-// Tries the test cases of the reading, the study, the check and the whole root, each kind from the file of its name. It writes the kind, and then a line for
-// each case: its number, and 'good', 'pass', or 'refused' with the refusal's number and value, or 'differs' where the study's buffer or answer is not the
-// case's. For the study and the check these are the bytes that the programs' own calls put into a buffer. For a root the line has the root and its steps.
+// Tries the test cases of the reading, the study, the check and the whole root, each kind from the file of its name, and S-5's own of the study and of the
+// check from files of their own. It writes the file's name, and then a line for each case: its number, and 'good', 'pass', or 'refused' with the refusal's
+// number and value, or 'differs' where the study's buffer or answer is not the case's. For the study and the check these are the bytes that the programs' own
+// calls put into a buffer. For a root the line has the root and its steps.
 ghost use Prim.Native.Nat.{_≤_};
 ghost use lib.ListN.{length};
 use answers::Refusal;
@@ -78,25 +79,30 @@ fn buffer_with(text: &[u8]) -> [u8; 65536] {
     buffer
 }
 
-// The place where the last line begins.
-fn last_line(text: &[u8]) -> usize {
+// The place where the row of the totals begins, behind the line of its names. Of all lines of a report that line alone begins with an s (115), since the
+// names of nodes have capitals and digits alone.
+fn totals_row(text: &[u8]) -> usize {
     let mut start = 0;
+    let mut named = false;
     let mut k = 1;
     while k < text.len() {
         if text[k - 1] == 10 {
-            start = k;
+            if named {
+                start = k;
+            }
+            named = text[k] == 115;
         }
         k += 1;
     }
     start
 }
 
-// Whether the answer tells the report's length, and the number of sweeps with which its last line begins.
+// Whether the answer tells the report's length, and the number of sweeps with which the row of its totals begins.
 fn tells(answer: Study, report: &[u8]) -> bool {
     let Study::Written(length, sweeps) = answer else {
         return report.len() == 0;
     };
-    let count = count_at(report, last_line(report), 44);
+    let count = count_at(report, totals_row(report), 44);
     length == report.len() && sweeps == count.value
 }
 
@@ -195,6 +201,8 @@ fn try_file(kind: Kind, name: &[u8]) {
 fn main() {
     try_file(Kind::Reading, b"reading");
     try_file(Kind::Study, b"study");
+    try_file(Kind::Study, b"study_taps");
     try_file(Kind::Check, b"check");
+    try_file(Kind::Check, b"check_taps");
     try_file(Kind::Root, b"root");
 }

@@ -3,10 +3,13 @@
 //! Every case is a feeder and a report. The study is run with buffers of many lengths, filled beforehand and with guard
 //! bytes around them, and the answer with its sweeps and every byte are compared; then the check. The first difference
 //! ends the run, and its files are written to the folder named by FUZZ_OUT (or here). A line that comes with a refusal must
-//! also be the first of all that have the fault, which are sought row by row. How often each answer was met is printed at
-//! the end: for all feeders, for those with a load row between two phases, for those with a P row below 70 per cent of vn
-//! (the study's answers if in any sweep, the check's if in the report), and for those where two rows or more have the fault
-//! that was answered; then how often 54 passed over a row that is fed through one that is off, by where that row stands.
+//! also be the first of all that have the fault, which are sought row by row. The study's own report must pass, and without
+//! its table of taps too where no regulator sets its taps; else that meets 50. For every report that passes, the power
+//! account must hold and no line have 56. How often each answer was met is printed at the end: for all feeders, for those
+//! with a load row between two phases, for those with a P row below 70 per cent of vn (the study's answers if in any sweep,
+//! the check's if in the report), for those with a regulator that sets its taps, and for those where two rows or more have
+//! the fault that was answered; then how often 54 passed over a row that is fed through one that is off, by where that row
+//! stands, and what the studies and reports were like where regulators set their taps.
 //!
 //! `--self` compares the twin with itself by the same calls. There TWIN_WRONG=KIND:N spoils the N-th call on the other
 //! side, to show that the fuzzer notices: KIND is `answer`, `sweeps`, `byte` (in the report), `behind` (a byte behind
@@ -16,10 +19,12 @@ use std::collections::BTreeMap;
 use std::sync::atomic::{AtomicU64, Ordering};
 use twin::equations::Phases;
 use twin::faults::{lines_with, passed_over};
-use twin::generate::{any_feeder, any_report, Random};
-use twin::ladder::settle_watched;
+use twin::generate::{any_feeder, any_report, at_last_taps, Random};
+use twin::generate_taps::without_table;
 use twin::outside::{twin_check, twin_study, Calls, PROVED};
-use twin::report::read_report;
+use twin::relay::MOST_TAP;
+use twin::report::{read_report, sweeps_told};
+use twin::rounds::{settle_taps_watched, ROUNDS};
 use twin::{account, parts, read_feeder, Answer, Feeder, MAX_FILE};
 
 const GUARD: usize = 64;
@@ -83,12 +88,6 @@ impl Guarded {
     }
 }
 
-/// The sweeps that a report tells: the first number of its last line.
-fn sweeps_told(report: &[u8]) -> Option<u32> {
-    let line = report.strip_suffix(b"\n")?.rsplit(|b| *b == b'\n').next()?;
-    std::str::from_utf8(line.split(|b| *b == b',').next()?).ok()?.parse().ok()
-}
-
 /// The number that an answer is counted under: report, pass or the refusal's.
 fn label(answer: Answer) -> String {
     match answer {
@@ -116,6 +115,12 @@ struct Counts {
     low: Met,
     /// Whether the case in hand is one.
     has_low: bool,
+    /// Those of feeders with a regulator that sets its taps.
+    relays: Met,
+    /// Whether the feeder in hand is one.
+    has_relay: bool,
+    /// What their studies and reports were like.
+    taps: BTreeMap<&'static str, u64>,
     /// Those where two rows or more have the fault that was answered.
     several: Met,
     /// Whether the answer in hand is one.
@@ -142,8 +147,9 @@ impl Counts {
     fn now(&mut self) -> impl Iterator<Item = &mut Met> {
         let delta = self.has_delta.then_some(&mut self.delta);
         let low = self.has_low.then_some(&mut self.low);
+        let relays = self.has_relay.then_some(&mut self.relays);
         let several = self.has_several.then_some(&mut self.several);
-        std::iter::once(&mut self.all).chain(delta).chain(low).chain(several)
+        std::iter::once(&mut self.all).chain(delta).chain(low).chain(relays).chain(several)
     }
 
     /// Counts an answer 54 with this line once for each kind of row that it passed over.
@@ -156,6 +162,43 @@ impl Counts {
             ("with the node above it within tol, behind", rows.iter().any(|row| row.parent_within && row.line > line)),
         ] {
             *self.passed_over.entry(kind).or_default() += u64::from(met);
+        }
+    }
+
+    fn taps(&mut self, kind: &'static str) {
+        *self.taps.entry(kind).or_default() += 1;
+    }
+
+    /// Counts what the study was like, if the feeder has a regulator that sets its taps.
+    fn rounds(&mut self, answer: Answer, rounds: u32) {
+        match (answer, rounds) {
+            _ if !self.has_relay => {}
+            (Answer::Report { .. }, 1) => self.taps("report after 1 round"),
+            (Answer::Report { .. }, ROUNDS) => self.taps("report after 32 rounds"),
+            (Answer::Report { .. }, _) => self.taps("report after 2 to 31 rounds"),
+            (Answer::Refused { number: 30..=34, .. }, 2..) => self.taps("30 to 34 in a later round"),
+            _ => {}
+        }
+    }
+
+    /// Counts what a report that passes is like, if the feeder has a regulator that sets its taps.
+    fn rested(&mut self, feeder: &[u8], report: &[u8]) {
+        let Ok(feeder) = read_feeder(feeder) else { return };
+        let Ok(report) = read_report(&feeder, report) else { return };
+        if !self.has_relay {
+            return;
+        }
+        if report.taps != at_last_taps(&feeder).taps() {
+            self.taps("pass with other taps than the study's");
+        }
+        let at_end = feeder.regulators().zip(&report.taps).any(|((row, regulator), taps)| {
+            let (v, i) = (&report.voltages[row + 1], &report.currents[row]);
+            let present = |k: usize| feeder.branches[row].phases & 1 << k != 0;
+            let wants = |k: usize| regulator.relay.as_ref().map_or(0, |relay| relay.wants(v[k], i[k]));
+            (0..3).any(|k| present(k) && (taps[k] + wants(k)).abs() > MOST_TAP)
+        });
+        if at_end {
+            self.taps("pass with a tap at its end that is wanted beyond it");
         }
     }
 }
@@ -183,13 +226,24 @@ fn has_low(feeder: &Feeder, v: &[Phases]) -> bool {
     feeder.loads.iter().any(|load| load.is_low(v))
 }
 
-/// Whether one does so in any sweep of the study.
-fn low_in_study(feeder: &[u8]) -> bool {
-    let Ok(feeder) = read_feeder(feeder) else { return false };
-    let mut low = false;
+/// Whether one does so in any sweep of the study, and the rounds that it takes.
+fn low_in_study(feeder: &[u8]) -> (bool, u32) {
+    let Ok(feeder) = read_feeder(feeder) else { return (false, 0) };
+    let (mut low, mut rounds) = (false, 0);
     // Its answer is compared elsewhere.
-    let _ = settle_watched(&feeder, |v| low |= has_low(&feeder, v));
-    low
+    let _ = settle_taps_watched(&mut feeder.clone(), |round, v| {
+        low |= has_low(&feeder, v);
+        rounds = round;
+    });
+    (low, rounds)
+}
+
+/// Whether the file has a line like that of a regulator with a level. It need not be a good feeder.
+fn has_relay(feeder: &[u8]) -> bool {
+    feeder.split(|b| *b == b'\n').any(|line| {
+        let fields: Vec<&[u8]> = line.split(|b| *b == b',').collect();
+        fields.len() == 16 && fields[3] == b"R" && fields[7] != b"0"
+    })
 }
 
 /// Whether one does so in the report, if that can be read.
@@ -202,10 +256,13 @@ fn low_in_report(feeder: &[u8], report: &[u8]) -> bool {
 fn compare(far: &Calls, feeder: &[u8], report: &[u8], salt: u8, counts: &mut Counts) -> Result<(), String> {
     let mut large = Guarded::new(MAX_FILE, salt);
     let first = twin::study(feeder, large.middle());
+    let (low, rounds) = low_in_study(feeder);
     counts.has_delta = has_delta(feeder);
-    counts.has_low = low_in_study(feeder);
+    counts.has_low = low;
+    counts.has_relay = has_relay(feeder);
     counts.has_several = has_several(first, feeder, &[])?;
     counts.study(first);
+    counts.rounds(first, rounds);
 
     let mut lengths = vec![MAX_FILE, 0, 1];
     if let Answer::Report { length: needed, .. } = first {
@@ -249,6 +306,8 @@ fn compare(far: &Calls, feeder: &[u8], report: &[u8], salt: u8, counts: &mut Cou
     if let Answer::Report { length, .. } = first {
         let mut own = large.middle()[..length].to_vec();
         compare_check(far, &mut own_feeder, &mut own, counts, Some(Answer::Pass))?;
+        let due = if counts.has_relay { Answer::Refused { number: 50, value: 0 } } else { Answer::Pass };
+        compare_check(far, &mut own_feeder, &mut without_table(&own), counts, Some(due))?;
     }
     compare_check(far, &mut own_feeder, &mut own_report, counts, None)?;
     if own_feeder != feeder || own_report != report {
@@ -273,7 +332,7 @@ fn compare_check(
     }
     counts.calls += 1;
     if due.is_some_and(|due| due != answer) {
-        return Err(format!("check: the twin refuses its own report, {answer:?}"));
+        return Err(format!("check: the twin says {answer:?} of its own report"));
     }
     // SAFETY: as in the study.
     let word = unsafe { (far.check)(feeder.as_mut_ptr(), feeder.len(), report.as_mut_ptr(), report.len()) };
@@ -283,6 +342,13 @@ fn compare_check(
     // Demand 3, for every report that passes.
     if answer == Answer::Pass && !account::account_of(feeder, report).is_some_and(|account| account.holds()) {
         return Err("check: a pass, but the power account does not hold".to_string());
+    }
+    if answer == Answer::Pass {
+        let lines = lines_with(56, feeder, report).unwrap_or_default();
+        if !lines.is_empty() {
+            return Err(format!("check: a pass, and lines {lines:?} have 56"));
+        }
+        counts.rested(feeder, report);
     }
     Ok(())
 }
@@ -348,9 +414,13 @@ fn main() {
     line("check, with delta loads", &counts.delta.checks);
     line("study, with low voltage", &counts.low.studies);
     line("check, with low voltage", &counts.low.checks);
+    line("study, with regulators that set their taps", &counts.relays.studies);
+    line("check, with regulators that set their taps", &counts.relays.checks);
     line("study, several rows with the fault", &counts.several.studies);
     line("check, several rows with the fault", &counts.several.checks);
     let passed_over: Vec<String> = counts.passed_over.iter().map(|(kind, count)| format!("{kind}: {count}")).collect();
     println!("check, 54 with a row that is off and fed through one that is off  {}", passed_over.join(", "));
+    let taps: Vec<String> = counts.taps.iter().map(|(kind, count)| format!("{kind}: {count}")).collect();
+    println!("regulators that set their taps  {}", taps.join(", "));
     println!("{count} cases of seed {seed}, {} calls on each side, 0 differences", counts.calls);
 }

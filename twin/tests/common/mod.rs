@@ -26,7 +26,7 @@ pub fn studied(feeder: &[u8]) -> Result<String, (u32, u64)> {
 }
 
 /// The rows of one branch and of the totals, of a study with one line without impedance from S to N on all phases.
-// The tests of S-4 have no use for it.
+// The tests of S-4 and S-5 have no use for it.
 #[allow(dead_code)]
 pub fn flow(voltages: &str, loads: &[&str]) -> Result<(String, String), (u32, u64)> {
     let line = "S,N,ABC,L,0,0,0,0,0,0,0,0,0,0,0,0";

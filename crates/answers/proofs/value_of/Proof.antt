@@ -47,11 +47,11 @@ enum-known-x-12 c = search needs
 enum-known-x-13 : tie.Need-enum-known-x-13
 enum-known-x-13 c = search needs
 
-enum-told-2 : tie.Need-enum-told-2
-enum-told-2 c = search needs
-
 enum-known-x-14 : tie.Need-enum-known-x-14
 enum-known-x-14 c = search needs
+
+enum-told-2 : tie.Need-enum-told-2
+enum-told-2 c = search needs
 
 enum-known-x-15 : tie.Need-enum-known-x-15
 enum-known-x-15 c = search needs
@@ -62,8 +62,14 @@ enum-known-x-16 c = search needs
 enum-known-x-17 : tie.Need-enum-known-x-17
 enum-known-x-17 c = search needs
 
+enum-known-x-18 : tie.Need-enum-known-x-18
+enum-known-x-18 c = search needs
+
 enum-told-3 : tie.Need-enum-told-3
 enum-told-3 c = search needs
+
+enum-known-x-19 : tie.Need-enum-known-x-19
+enum-known-x-19 c = search needs
 
 returns : tie.Need-returns
 returns c = sym (ap valueOf (c .enum-told .given .1))
@@ -108,10 +114,10 @@ returns-14 : tie.Need-returns-14
 returns-14 c = sym (ap valueOf (c .before .x13 .given .1))
 
 returns-15 : tie.Need-returns-15
-returns-15 c = search needs
+returns-15 c = sym (ap valueOf (c .before .x14 .given .1))
 
 returns-16 : tie.Need-returns-16
-returns-16 c = sym (ap valueOf (c .before .x14 .given .1))
+returns-16 c = sym (ap valueOf (c .enum-told2 .given .1))
 
 returns-17 : tie.Need-returns-17
 returns-17 c = sym (ap valueOf (c .before .x15 .given .1))
@@ -123,49 +129,13 @@ returns-19 : tie.Need-returns-19
 returns-19 c = sym (ap valueOf (c .before .x17 .given .1))
 
 returns-20 : tie.Need-returns-20
-returns-20 c = sym (ap valueOf (c .enum-told3 .given .1))
+returns-20 c = sym (ap valueOf (c .before .x18 .given .1))
+
+returns-21 : tie.Need-returns-21
+returns-21 c = sym (ap valueOf (c .enum-told3 .given .1))
+
+returns-22 : tie.Need-returns-22
+returns-22 c = sym (ap valueOf (c .before .x19 .given .1))
 
 pub value-of-spec : {M : Type 1} → statement M
-value-of-spec =
-    tie.close
-    (tie.spec
-    enum-told
-    enum-known-x
-    enum-known-x-2
-    enum-known-x-3
-    enum-known-x-4
-    enum-known-x-5
-    enum-known-x-6
-    enum-known-x-7
-    enum-known-x-8
-    enum-known-x-9
-    enum-known-x-10
-    enum-known-x-11
-    enum-known-x-12
-    enum-known-x-13
-    enum-told-2
-    enum-known-x-14
-    enum-known-x-15
-    enum-known-x-16
-    enum-known-x-17
-    enum-told-3
-    returns
-    returns-2
-    returns-3
-    returns-4
-    returns-5
-    returns-6
-    returns-7
-    returns-8
-    returns-9
-    returns-10
-    returns-11
-    returns-12
-    returns-13
-    returns-14
-    returns-15
-    returns-16
-    returns-17
-    returns-18
-    returns-19
-    returns-20)
+value-of-spec = tie.close (tie.spec enum-told enum-known-x enum-known-x-2 enum-known-x-3 enum-known-x-4 enum-known-x-5 enum-known-x-6 enum-known-x-7 enum-known-x-8 enum-known-x-9 enum-known-x-10 enum-known-x-11 enum-known-x-12 enum-known-x-13 enum-known-x-14 enum-told-2 enum-known-x-15 enum-known-x-16 enum-known-x-17 enum-known-x-18 enum-told-3 enum-known-x-19 returns returns-2 returns-3 returns-4 returns-5 returns-6 returns-7 returns-8 returns-9 returns-10 returns-11 returns-12 returns-13 returns-14 returns-15 returns-16 returns-17 returns-18 returns-19 returns-20 returns-21 returns-22)

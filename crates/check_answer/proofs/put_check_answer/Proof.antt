@@ -2,8 +2,8 @@
 use mathlib.Core.Path.{_∙_, _≡_, sym}
 use borrow.Author.Needs.{needs}
 use Rattle.check_answer.specs.CheckAnswerLaws.{pass-accounts, text-failed, text-passed}
-use Rattle.report_check.specs.Check.{checkOf}
-use Rattle.report_check.specs.declared.Verdict.the-variants.{Fail, Pass}
+use Rattle.verdicts.specs.Check.{checkOf}
+use Rattle.verdicts.specs.declared.Verdict.the-variants.{Fail, Pass}
 use Rattle.text.specs.Text.{bytes}
 use Rattle.check_answer.proofs.put_check_answer.Statement.{statement}
 use Rattle.check_answer.proofs.put_check_answer.Tie as tie

@@ -12,7 +12,7 @@ use Rattle.integers.specs.declared.Pair.{Pair}
 use Rattle.devices.proofs.regulated.Statement.{statement}
 use Rattle.devices.proofs.regulated.Tie as tie
 
-fits : (s : tie.Start) → SFits w64 (s .args .t .a) × SFits w64 (s .args .t .b) × SFits w64 (s .args .t .c)
+fits : (s : tie.Start) → SFits w64 (s .args .d .taps .a) × SFits w64 (s .args .d .taps .b) × SFits w64 (s .args .d .taps .c)
 fits s = search sfits-of
 
 again : (t : ℤ) (x : Pair) → SFits w64 t → rndPair (scaled (pos 160) x) (natAbs (pos 160 -ℤ read t)) ≡ rndPair (scaled (pos 160) x) (natAbs (pos 160 -ℤ t))
@@ -30,12 +30,12 @@ regulate-requires-3 c κs = search needs
 returns : tie.Need-returns
 unfolding throughOf each
 returns c =
-    let s = c .before .before .before .before .before .before in
+    let s = c .before .before .before .before .before .before .before in
     let f = fits s in
     λ i. record {
-      a = (c .before .before .before .before .regulate .ensures ∙ again (s .args .t .a) (s .args .x .a) (f .0)) i;
-      b = (c .before .before .regulate2 .ensures ∙ again (s .args .t .b) (s .args .x .b) (f .1)) i;
-      c = (c .regulate3 .ensures ∙ again (s .args .t .c) (s .args .x .c) (f .2)) i;
+      a = (c .before .before .before .before .regulate .ensures ∙ again (s .args .d .taps .a) (s .args .x .a) (f .0)) i;
+      b = (c .before .before .regulate2 .ensures ∙ again (s .args .d .taps .b) (s .args .x .b) (f .1)) i;
+      c = (c .regulate3 .ensures ∙ again (s .args .d .taps .c) (s .args .x .c) (f .2)) i;
     }
 
 pub regulated-spec : {M : Type 1} → statement M

@@ -5,8 +5,8 @@ use borrow.Author.Needs.{needs}
 use Rattle.flarecomb.specs.CheckValues.{check-value}
 use Rattle.flarecomb.specs.WordLaws.{check-word, zero-passes}
 use Rattle.flarecomb.specs.Words.{wordOfCheck}
-use Rattle.report_check.specs.Check.{checkOf}
-use Rattle.report_check.specs.declared.Verdict.the-variants.{Fail, Pass}
+use Rattle.verdicts.specs.Check.{checkOf}
+use Rattle.verdicts.specs.declared.Verdict.the-variants.{Fail, Pass}
 use Rattle.flarecomb.proofs.flarecomb_check.Statement.{statement}
 use Rattle.flarecomb.proofs.flarecomb_check.Tie as tie
 

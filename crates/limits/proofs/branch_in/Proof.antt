@@ -1,5 +1,5 @@
 -- `limits::branch_in` meets its contract: each kind has its own limits, and D those of Y. Assumes nothing.
-use mathlib.Core.Path.{_≡_, _∙_, ap, sym}
+use mathlib.Core.Path.{_∙_, _≡_, ap, sym}
 use lib.ListN.{drop}
 use borrow.Author.Needs.{needs}
 use Rattle.arrays.specs.Arrays.{kindOf}
@@ -7,7 +7,6 @@ use Rattle.feeder.specs.Feeder.{branchIn, columnOf}
 use Rattle.feeder.specs.declared.Kind.{Kind}
 use Rattle.integers.specs.Machine.{read}
 use Rattle.text.specs.Lines.{nth}
-use Rattle.limits.specs.Columns.{regulator-in}
 use Rattle.limits.proofs.branch_in.Statement.{statement}
 use Rattle.limits.proofs.branch_in.Tie as tie
 
@@ -33,8 +32,8 @@ line-in-requires c κs = search needs
 enum-told-2 : tie.Need-enum-told-2
 enum-told-2 c = search needs
 
-all-between-requires : tie.Need-all-between-requires
-all-between-requires c κs = search needs
+regulator-in-requires : tie.Need-regulator-in-requires
+regulator-in-requires c κs = search needs
 
 enum-told-3 : tie.Need-enum-told-3
 enum-told-3 c = search needs
@@ -56,7 +55,7 @@ returns c =
 returns-2 : tie.Need-returns-2
 returns-2 c =
     let n = c .before .before .before .before .before .args .n .now in
-    c .all-between .ensures ∙ sym (regulator-in (drop 5 n)) ∙ sym (ap (λ (k : Kind). branchIn k (drop 5 n)) (sym (kind (c .before .before .before)) ∙ c .before .enum-told2 .given .1))
+    c .regulator-in .ensures ∙ sym (ap (λ (k : Kind). branchIn k (drop 5 n)) (sym (kind (c .before .before .before)) ∙ c .before .enum-told2 .given .1))
 
 returns-3 : tie.Need-returns-3
 returns-3 c =
@@ -78,7 +77,7 @@ branch-in-spec =
     enum-told
     line-in-requires
     enum-told-2
-    all-between-requires
+    regulator-in-requires
     enum-told-3
     transformer-in-requires
     enum-told-4

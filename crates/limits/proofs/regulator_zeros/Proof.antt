@@ -1,6 +1,6 @@
 -- `limits::regulator_zeros` meets its contract: three taps, one after the other, and the columns behind them. Assumes nothing.
 use mathlib.Core.Bool.{true}
-use mathlib.Core.Path.{_≡_, _∙_, sym}
+use mathlib.Core.Path.{_∙_, _≡_, sym}
 use lib.ListN.{drop}
 use borrow.Author.Tests.{not-false, not-true}
 use borrow.Author.Needs.{needs}
@@ -38,8 +38,17 @@ returns-3 c = sym (regulator-zeros _ _ ∙ simp (passed (c .before .before .befo
 all-zero-requires : tie.Need-all-zero-requires
 all-zero-requires c κs = search needs
 
+all-zero-requires-2 : tie.Need-all-zero-requires-2
+all-zero-requires-2 c κs = search needs
+
 returns-4 : tie.Need-returns-4
-returns-4 c = c .all-zero .ensures ∙ sym (regulator-zeros _ _ ∙ simp (passed (c .before .before .before .before .before), passed2 (c .before .before .before), passed3 (c .before)))
+returns-4 c = c .all-zero2 .ensures ∙ sym (regulator-zeros _ _ ∙ simp (passed (c .before .before .before .before .before .before .before), passed2 (c .before .before .before .before .before), passed3 (c .before .before .before), sym (c .before .before .all-zero .ensures) ∙ c .before .if4 .taken))
+
+all-zero-requires-3 : tie.Need-all-zero-requires-3
+all-zero-requires-3 c κs = search needs
+
+returns-5 : tie.Need-returns-5
+returns-5 c = c .all-zero3 .ensures ∙ sym (regulator-zeros _ _ ∙ simp (passed (c .before .before .before .before .before .before .before), passed2 (c .before .before .before .before .before), passed3 (c .before .before .before), sym (c .before .before .all-zero .ensures) ∙ c .before .if4 .left))
 
 pub regulator-zeros-spec : {M : Type 1} → statement M
 regulator-zeros-spec =
@@ -52,4 +61,7 @@ regulator-zeros-spec =
     zero-unless-requires-3
     returns-3
     all-zero-requires
-    returns-4)
+    all-zero-requires-2
+    returns-4
+    all-zero-requires-3
+    returns-5)

@@ -9,8 +9,8 @@ use Rattle.ladder.specs.StudyPoints.{study-points}
 use Rattle.ladder.specs.StudyLaws.{study-good, study-told}
 use Rattle.ladder.specs.declared.Study.the-variants.{Written}
 use Rattle.pair.specs.Calls.{passes-written, written-passes}
-use Rattle.report_check.specs.Check.{checkOf}
-use Rattle.report_check.specs.declared.Verdict.the-variants.{Fail}
+use Rattle.verdicts.specs.Check.{checkOf}
+use Rattle.verdicts.specs.declared.Verdict.the-variants.{Fail}
 use Rattle.pair.proofs.study_and_check.Statement.{statement}
 use Rattle.pair.proofs.study_and_check.Tie as tie
 

@@ -2,20 +2,25 @@
 use mathlib.Core.Bool.{_&&_, false, true}
 use mathlib.Core.List.{List}
 use mathlib.Core.Path.{_∙_, _≡_, refl, subst, sym}
-use Prim.Native.Nat.{_+_, _≤_, suc, ℕ}
+use Prim.Native.Nat.{_+_, _-_, _≤_, suc, ℕ}
 use native.Mathlib.Omega.{arith}
 use lib.IntN.{pos}
-use lib.ListN.{drop, getD, length, length-drop}
+use lib.ListN.{drop, getD, length, length-drop, take}
 use lib.Seq.{drop-drop}
 use borrow.Author.Needs.{needs}
 use borrow.Author.Tests.{not-false, not-true}
 use Rattle.integers.specs.Machine.{read}
 use Rattle.text.specs.Text.{bytes}
 use Rattle.text.specs.TextLaws.{part-from}
-use Rattle.feeder.specs.Feeder.{between, rowCount}
-use Rattle.report.specs.Report.{lastRow}
+use Rattle.feeder.specs.Feeder.{Feeder, between, rowCount}
+use Rattle.report.specs.Report.{Reported, reportOf, totalsRow}
+use Rattle.answers.specs.AnswerLaws.{not-refused}
+use Rattle.answers.specs.Answers.{good, refused}
+use Rattle.answers.specs.declared.Refusal.the-variants.{ReportLayout}
 use Rattle.report_tables.specs.TablesRead.{TableHeld, TableIs, TableRead, TotalsAre, TotalsHeld, tableRead}
-use Rattle.report_reader.specs.ReportLaws.{accepts, branchTable, by-tests, made-pairs, made-threes, no-branches, no-nodes, no-totals, nodeTable, not-read}
+use Rattle.tap_table.specs.TapTable.{tapsOf}
+use Rattle.report_reader.specs.Read.{FeederShown, LastHeld, lastTaps}
+use Rattle.report_reader.specs.ReportLaws.{accepts, branchTable, by-tests, made-pairs, made-threes, no-branches, no-nodes, no-taps, no-totals, nodeTable, not-read, taps-read}
 use Rattle.report_reader.proofs.read_report.Statement.{statement}
 use Rattle.report_reader.proofs.read_report.Tie as tie
 
@@ -50,23 +55,36 @@ branches-within c =
     let k = branches-held c (c .before .before .before .before .before .before .before .before .before .before .before .before .before .before .before .before .before .before .args .rows) refl .within in
     omega (arith, length-drop (c .before .before .before .before .before .before .before .before .before .before .before .read-table .result .next) (c .before .before .before .before .before .before .before .before .before .before .before .before .before .before .before .before .before .before .args .report .now))
 
--- the last table, in the rest behind that
-totals : (c : tie.After-read-totals) → TotalsAre (lastRow (drop (c .before .before .before .before .before .read-table2 .result .next) (drop (c .before .before .before .before .before .before .before .before .before .before .before .before .before .before .read-table .result .next) (c .before .before .before .before .before .before .before .before .before .before .before .before .before .before .before .before .before .before .before .before .before .args .report .now)))) (c .read-totals .result)
-totals c =
+-- the rest behind these two, in which the row of the totals and the last table stand
+abbrev rest : tie.After-read-totals → List ℕ
+rest c = drop (c .before .before .before .before .before .read-table2 .result .next) (drop (c .before .before .before .before .before .before .before .before .before .before .before .before .before .before .read-table .result .next) (c .before .before .before .before .before .before .before .before .before .before .before .before .before .before .before .before .before .before .before .before .before .args .report .now))
+
+rest-is : (c : tie.After-read-totals) → let s = c .before .before .before .before .before .before .before .before .before .before .before .before .before .before .before .before .before .before .before .before .before .args .report .now in let n = c .before .before .before .before .before .before .before .before .before .before .before .before .before .before .read-table .result .next + c .before .before .before .before .before .read-table2 .result .next in take (length s - n) (drop n s) ≡ rest c
+rest-is c =
     let s = c .before .before .before .before .before .before .before .before .before .before .before .before .before .before .before .before .before .before .before .before .before .args .report .now in
     let p = c .before .before .before .before .before .before .before .before .before .before .before .before .before .before .read-table .result .next in
     let q = c .before .before .before .before .before .read-table2 .result .next in
-    subst (λ (l : List ℕ). TotalsAre (lastRow l) (c .read-totals .result)) (part-from s (p + q) ∙ sym (drop-drop q p s)) (c .read-totals .ensures)
+    part-from s (p + q) ∙ sym (drop-drop q p s)
 
-totals-held : (c : tie.Else3) → TotalsHeld (lastRow (drop (c .before .before .before .before .before .before .before .read-table2 .result .next) (drop (c .before .before .before .before .before .before .before .before .before .before .before .before .before .before .before .before .read-table .result .next) (c .before .before .before .before .before .before .before .before .before .before .before .before .before .before .before .before .before .before .before .before .before .before .before .args .report .now)))) (c .before .before .read-totals .result)
+totals : (c : tie.After-read-totals) → TotalsAre (rest c) (totalsRow (rest c)) (c .read-totals .result)
+totals c = subst (λ (l : List ℕ). TotalsAre l (totalsRow l) (c .read-totals .result)) (rest-is c) (c .read-totals .ensures)
+
+totals-held : (c : tie.Else3) → TotalsHeld (rest (c .before .before)) (totalsRow (rest (c .before .before))) (c .before .before .read-totals .result)
 totals-held c = totals (c .before .before) .held (not-false _ (c .if3 .left))
+
+-- the last table
+last-held : (c : tie.Else4) (f : Feeder) → let a = c .before .before .before .before .before .before .before .before .before .before .before .before .before .before .before .before .before .before .before .before .before .before .before .before .before .before .before .before .before .args in FeederShown f (a .nodes .now) (a .branches .now) (a .rows) (a .limit) →
+    let l = c .before .read-taps .last .1 .1 .1 .1 .1 in LastHeld f (rest (c .before .before .before .before .before .before .before .before)) (c .before .before .before .before .before .before .before .before .read-totals .result .next) (l .0) (tapsOf (l .1 .0))
+last-held c f h =
+    let l = c .before .read-taps .last .1 .1 .1 .1 .1 in
+    subst (λ (s : List ℕ). LastHeld f s (c .before .before .before .before .before .before .before .before .read-totals .result .next) (l .0) (tapsOf (l .1 .0))) (rest-is (c .before .before .before .before .before .before .before .before)) (c .before .read-taps .ensures f _ h .held (not-false _ (c .if4 .left)))
 
 -- the tests
 sweeps-read : (c : tie.After-sweeps) → let l = c .before .before .before .before .read-totals .result .values in read (getD l 0 (pos 0)) ≡ getD l 0 (pos 0)
 sweeps-read c = search needs
 
-agreed : (c : tie.After-accepted) (limit : ℕ) → c .before .before .before .before .before .before .before .before .before .before .before .before .before .before .before .before .before .before .before .before .before .before .before .before .before .before .args .limit ≡ limit → accepts limit (nodeRead (c .before .before .before .before .before .before .before .before .before .before .before .before .before .before .before .before .before .before .before)) (branchRead (c .before .before .before .before .before .before .before .before .before .before)) (c .before .before .before .before .before .read-totals .result) ≡ c .accepted .result
-agreed c limit d = sym (c .accepted .ensures ∙ (λ i. c .before .before .before .before .before .before .before .before .before .before .before .before .before .before .before .before .before .before .before .read-table .result .inside && (c .before .before .before .before .before .before .before .before .before .before .read-table2 .result .inside && between (pos 1) (pos (d i)) (sweeps-read (c .before) i))))
+agreed : (c : tie.After-accepted) (limit : ℕ) → c .before .before .before .before .before .before .before .before .before .before .before .before .before .before .before .before .before .before .before .before .before .before .before .before .before .before .before .before .before .before .args .limit ≡ limit → accepts limit (nodeRead (c .before .before .before .before .before .before .before .before .before .before .before .before .before .before .before .before .before .before .before .before .before .before .before)) (branchRead (c .before .before .before .before .before .before .before .before .before .before .before .before .before .before)) (c .before .before .before .before .before .before .before .before .before .read-totals .result) ≡ c .accepted .result
+agreed c limit d = sym (c .accepted .ensures ∙ (λ i. c .before .before .before .before .before .before .before .before .before .before .before .before .before .before .before .before .before .before .before .before .before .before .before .read-table .result .inside && (c .before .before .before .before .before .before .before .before .before .before .before .before .before .before .read-table2 .result .inside && between (pos 1) (pos (d i)) (sweeps-read (c .before .before .before .before .before) i))))
 
 slice-aggregate-read-table : tie.Need-slice-aggregate-read-table
 slice-aggregate-read-table c = search needs
@@ -77,10 +95,17 @@ add-read-table c = search needs
 read-table-requires : tie.Need-read-table-requires
 read-table-requires c κs =
     let p = c .before .before .before .before .before .before .pre .1 .1 in
-    (search needs, (search needs, record { first-made = p .0; threes-made = made-threes _ (p .1 .0); blank = (p .1 .1 .1 .0, made-pairs _ (p .1 .1 .1 .1 .1)) }))
+    (search needs, (search needs, record { first-made = p .0; threes-made = made-threes _ (p .1 .0); blank = (p .1 .1 .1 .0, made-pairs _ (p .1 .1 .1 .1 .1 .0)) }))
+
+-- a report that is refused
+unread : {X : Type 0} (f : Feeder) (s : List ℕ) → reportOf f s ≡ refused ReportLayout → (x : Reported) → reportOf f s ≡ good x → X
+unread f s e x g = not-refused ReportLayout x (sym e ∙ g)
+
+no-nodes-in : (c : tie.Then1) (f : Feeder) → c .before .before .before .before .before .before .before .before .before .args .rows ≡ rowCount f → reportOf f (c .before .before .before .before .before .before .before .before .before .args .report .now) ≡ refused ReportLayout
+no-nodes-in c f e = no-nodes f _ (nodes (c .before .before) (suc (rowCount f)) (omega (arith, e)) .refusal (not-true _ (c .if1 .taken)))
 
 returns : tie.Need-returns
-returns c = λ f e d. not-read _ _ _ refl (no-nodes f _ (nodes (c .before .before) (suc (rowCount f)) (omega arith) .refusal (not-true _ (c .if1 .taken))))
+returns c = ((λ f h. not-read _ _ _ refl (no-nodes-in c f (h .rows))), (λ f x h. unread f _ (no-nodes-in c f (h .rows)) x))
 
 sub-read-table : tie.Need-sub-read-table
 sub-read-table c = nodes-within c
@@ -99,35 +124,59 @@ read-table-requires-2 c κs =
     let p = c .before .before .before .before .before .before .before .before .before .before .before .before .before .before .before .pre .1 .1 in
     (search needs, (search needs, record { first-made = p .1 .1 .0; threes-made = made-threes _ (p .1 .1 .1 .1 .0); blank = nodes-held (c .before .before .before .before .before .before) (c .before .before .before .before .before .before .before .before .before .before .before .before .before .before .before .args .rows + 1) refl .blank refl }))
 
+-- the first two tables of a feeder with so many rows
+nodes-of : (c : tie.Else1) (f : Feeder) → c .before .before .before .before .before .before .before .before .before .args .rows ≡ rowCount f → TableHeld false (suc (rowCount f)) (c .before .before .before .before .before .before .before .before .before .args .report .now) (nodeTable (suc (rowCount f)) (c .before .before .before .before .before .before .before .before .before .args .report .now)) (nodeRead (c .before .before))
+nodes-of c f e = nodes-held c (suc (rowCount f)) (omega (arith, e))
+
+no-branches-in : (c : tie.Then2) (f : Feeder) → c .before .before .before .before .before .before .before .before .before .before .before .before .before .before .before .before .before .before .args .rows ≡ rowCount f → reportOf f (c .before .before .before .before .before .before .before .before .before .before .before .before .before .before .before .before .before .before .args .report .now) ≡ refused ReportLayout
+no-branches-in c f e = no-branches f _ _ _ (nodes-of (c .before .before .before .before .before .before .before .before .before) f e .whole) (branches (c .before .before) (rowCount f) (sym e) .refusal (not-true _ (c .if2 .taken)))
+
 returns-2 : tie.Need-returns-2
-returns-2 c = λ f e d. not-read _ _ _ refl (no-branches f _ _ _ (nodes-held (c .before .before .before .before .before .before .before .before .before) (suc (rowCount f)) (omega arith) .whole) (branches (c .before .before) (rowCount f) (sym e) .refusal (not-true _ (c .if2 .taken))))
+returns-2 c = ((λ f h. not-read _ _ _ refl (no-branches-in c f (h .rows))), (λ f x h. unread f _ (no-branches-in c f (h .rows)) x))
 
 add-q : tie.Need-add-q
 add-q c = let h = branches-within (c .before) in let l = c .before .before .before .before .before .before .before .before .before .before .before .before .before .before .before .before .before .before .before .good .0 .0 in search needs
 
-sub-read-totals : tie.Need-sub-read-totals
-sub-read-totals c = branches-within (c .before)
+sub-rest : tie.Need-sub-rest
+sub-rest c = branches-within (c .before)
 
-part-read-totals-start : tie.Need-part-read-totals-start
-part-read-totals-start c = branches-within (c .before)
+part-rest-start : tie.Need-part-rest-start
+part-rest-start c = branches-within (c .before)
 
-part-read-totals-end : tie.Need-part-read-totals-end
-part-read-totals-end c = search needs
+part-rest-end : tie.Need-part-rest-end
+part-rest-end c = search needs
 
 read-totals-requires : tie.Need-read-totals-requires
 read-totals-requires c κs = search needs
 
+no-totals-in : (c : tie.Then3) (f : Feeder) → c .before .before .before .before .before .before .before .before .before .before .before .before .before .before .before .before .before .before .before .before .before .before .before .args .rows ≡ rowCount f → reportOf f (c .before .before .before .before .before .before .before .before .before .before .before .before .before .before .before .before .before .before .before .before .before .before .before .args .report .now) ≡ refused ReportLayout
+no-totals-in c f e = no-totals f _ _ _ (nodes-of (c .before .before .before .before .before .before .before .before .before .before .before .before .before .before) f e .whole) _ _ (branches-held (c .before .before .before .before .before) (rowCount f) (sym e) .whole) (totals (c .before .before) .refusal (not-true _ (c .if3 .taken)))
+
 returns-3 : tie.Need-returns-3
-returns-3 c = λ f e d. not-read _ _ _ refl (no-totals f _ _ _ (nodes-held (c .before .before .before .before .before .before .before .before .before .before .before .before .before .before) (suc (rowCount f)) (omega arith) .whole) _ _ (branches-held (c .before .before .before .before .before) (rowCount f) (sym e) .whole) (totals (c .before .before) .refusal (not-true _ (c .if3 .taken))))
+returns-3 c = ((λ f h. not-read _ _ _ refl (no-totals-in c f (h .rows))), (λ f x h. unread f _ (no-totals-in c f (h .rows)) x))
 
 array-copy-out-sweeps : tie.Need-array-copy-out-sweeps
 array-copy-out-sweeps c = search needs
 
-accepted-requires : tie.Need-accepted-requires
-accepted-requires c κs = c .before .before .before .before .before .before .before .before .before .before .before .before .before .before .before .before .before .before .before .before .before .before .before .before .before .pre .1 .0
+read-taps-requires : tie.Need-read-taps-requires
+read-taps-requires c κs = let p = c .before .before .before .before .before .before .before .before .before .before .before .before .before .before .before .before .before .before .before .before .before .before .before .before .before .before .before .pre in (p .0, p .1 .1 .1 .1 .1 .1 .1 .1)
+
+no-taps-in : (c : tie.Then4) (f : Feeder) → FeederShown f (c .before .before .before .before .before .before .before .before .before .before .before .before .before .before .before .before .before .before .before .before .before .before .before .before .before .before .before .before .before .args .nodes .now) (c .before .before .before .before .before .before .before .before .before .before .before .before .before .before .before .before .before .before .before .before .before .before .before .before .before .before .before .before .before .args .branches .now) (c .before .before .before .before .before .before .before .before .before .before .before .before .before .before .before .before .before .before .before .before .before .before .before .before .before .before .before .before .before .args .rows) (c .before .before .before .before .before .before .before .before .before .before .before .before .before .before .before .before .before .before .before .before .before .before .before .before .before .before .before .before .before .args .limit) → reportOf f (c .before .before .before .before .before .before .before .before .before .before .before .before .before .before .before .before .before .before .before .before .before .before .before .before .before .before .before .before .before .args .report .now) ≡ refused ReportLayout
+no-taps-in c f h =
+    no-taps f _ _ _ (nodes-of (c .before .before .before .before .before .before .before .before .before .before .before .before .before .before .before .before .before .before .before .before) f (h .rows) .whole) _ _ (branches-held (c .before .before .before .before .before .before .before .before .before .before .before) (rowCount f) (sym (h .rows)) .whole) _ _ (totals-held (c .before .before .before .before .before .before) .whole)
+    (subst (λ (l : List ℕ). lastTaps f l (c .before .before .before .before .before .before .before .before .read-totals .result .next) ≡ refused ReportLayout) (rest-is (c .before .before .before .before .before .before .before .before)) (c .before .read-taps .ensures f _ h .refusal (not-true _ (c .if4 .taken))))
 
 returns-4 : tie.Need-returns-4
-returns-4 c = λ f e d. by-tests f _ _ _ _ (nodes-held (c .before .before .before .before .before .before .before .before .before .before .before .before .before .before .before .before .before) (suc (rowCount f)) (omega arith)) (branches-held (c .before .before .before .before .before .before .before .before) (rowCount f) (sym e)) (totals-held (c .before .before .before)) _ (omega (arith, c .before .before .before .before .before .before .before .before .before .before .before .before .before .before .before .before .before .before .before .before .before .before .before .before .before .before .pre .0)) (agreed c (f .limit) d)
+returns-4 c = ((λ f h. not-read _ _ _ refl (no-taps-in c f h)), (λ f x h. unread f _ (no-taps-in c f h) x))
+
+accepted-requires : tie.Need-accepted-requires
+accepted-requires c κs = c .before .before .before .before .before .before .before .before .before .before .before .before .before .before .before .before .before .before .before .before .before .before .before .before .before .before .before .before .before .pre .1 .0
+
+returns-5 : tie.Need-returns-5
+returns-5 c = (
+  (λ f h. by-tests f _ _ _ _ _ _ (nodes-of (c .before .before .before .before .before .before .before .before .before .before .before .before .before .before .before .before .before .before .before .before .before) f (h .rows)) (branches-held (c .before .before .before .before .before .before .before .before .before .before .before .before) (rowCount f) (sym (h .rows))) (totals-held (c .before .before .before .before .before .before .before)) (last-held (c .before) f h) _ (h .few-rows) (agreed c (f .limit) (h .limit))),
+  (λ f x h. taps-read f _ _ _ _ _ _ (nodes-of (c .before .before .before .before .before .before .before .before .before .before .before .before .before .before .before .before .before .before .before .before .before) f (h .rows)) (branches-held (c .before .before .before .before .before .before .before .before .before .before .before .before) (rowCount f) (sym (h .rows))) (totals-held (c .before .before .before .before .before .before .before)) (last-held (c .before) f h) x),
+)
 
 pub read-report-spec : {M : Type 1} → statement M
 read-report-spec =
@@ -144,11 +193,13 @@ read-report-spec =
     read-table-requires-2
     returns-2
     add-q
-    sub-read-totals
-    part-read-totals-start
-    part-read-totals-end
+    sub-rest
+    part-rest-start
+    part-rest-end
     read-totals-requires
     returns-3
     array-copy-out-sweeps
+    read-taps-requires
+    returns-4
     accepted-requires
-    returns-4)
+    returns-5)

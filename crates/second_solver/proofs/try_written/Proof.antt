@@ -11,7 +11,10 @@ limit-of-requires : tie.Need-limit-of-requires
 limit-of-requires c κs = search needs
 
 read-report-requires : tie.Need-read-report-requires
-read-report-requires c κs = (search needs, (search needs, (refl, (refl, (refl, (refl, (refl, refl)))))))
+read-report-requires c κs = (search needs, (search needs, (refl, (refl, (refl, (refl, (refl, (refl, (refl, refl)))))))))
+
+take-taps-requires : tie.Need-take-taps-requires
+take-taps-requires c κs = search needs
 
 try-report-requires : tie.Need-try-report-requires
 try-report-requires c κs = search needs
@@ -35,6 +38,7 @@ try-written-spec =
     place-requires
     limit-of-requires
     read-report-requires
+    take-taps-requires
     try-report-requires
     slice-aggregate-print
     print-requires

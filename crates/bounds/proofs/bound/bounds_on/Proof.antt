@@ -5,11 +5,11 @@ use Rattle.bounds.proofs.bound.bounds_on.Statement.{statement}
 use Rattle.bounds.proofs.bound.bounds_on.Tie as tie
 
 abbrev Inv-loop : tie.InvT-loop
-Inv-loop solved reported voltages₀ currents₀ branches rows order loads count none moved sweeps₀ voltages currents sweeps =
+Inv-loop branches loads order solved reported voltages₀ currents₀ rows count none moved sweeps₀ voltages currents sweeps =
     sweeps ≤ 1000
 
 abbrev μ-loop : tie.MeasureT-loop
-μ-loop solved reported voltages₀ currents₀ branches rows order loads count none moved sweeps₀ voltages currents sweeps =
+μ-loop branches loads order solved reported voltages₀ currents₀ rows count none moved sweeps₀ voltages currents sweeps =
     1000 - sweeps
 
 no-phasors-requires : tie.Need-no-phasors-requires Inv-loop μ-loop

@@ -5,10 +5,10 @@ use Rattle.floats.proofs.solver.drawn.Statement.{statement}
 use Rattle.floats.proofs.solver.drawn.Tie as tie
 
 abbrev Inv-loop : tie.InvT-loop
-Inv-loop rows v own₀ loads count row₀ own row = row ≤ count
+Inv-loop loads rows v own₀ count row₀ own row = row ≤ count
 
 abbrev μ-loop : tie.MeasureT-loop
-μ-loop rows v own₀ loads count row₀ own row = count - row
+μ-loop loads rows v own₀ count row₀ own row = count - row
 
 load-count-requires : tie.Need-load-count-requires Inv-loop μ-loop
 load-count-requires c κs = search needs
@@ -16,11 +16,8 @@ load-count-requires c κs = search needs
 loop-holds : tie.Need-loop-holds Inv-loop μ-loop
 loop-holds c = search needs
 
-mul-l : tie.Need-mul-l Inv-loop μ-loop
-mul-l c = search needs
-
-array-copy-out-l : tie.Need-array-copy-out-l Inv-loop μ-loop
-array-copy-out-l c = search needs
+load-at-requires : tie.Need-load-at-requires Inv-loop μ-loop
+load-at-requires c κs = search needs
 
 add-row : tie.Need-add-row Inv-loop μ-loop
 add-row c = search needs
@@ -54,8 +51,7 @@ drawn-spec =
     μ-loop
     load-count-requires
     loop-holds
-    mul-l
-    array-copy-out-l
+    load-at-requires
     add-row
     place-requires
     phasors-at-requires

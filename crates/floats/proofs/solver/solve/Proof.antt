@@ -5,10 +5,10 @@ use Rattle.floats.proofs.solver.solve.Statement.{statement}
 use Rattle.floats.proofs.solver.solve.Tie as tie
 
 abbrev Inv-loop : tie.InvT-loop
-Inv-loop v₀ i₀ branches rows order loads count source sweeps₀ v i sweeps = sweeps ≤ 1000
+Inv-loop branches loads order v₀ i₀ rows count source sweeps₀ v i sweeps = sweeps ≤ 1000
 
 abbrev μ-loop : tie.MeasureT-loop
-μ-loop v₀ i₀ branches rows order loads count source sweeps₀ v i sweeps = 1000 - sweeps
+μ-loop branches loads order v₀ i₀ rows count source sweeps₀ v i sweeps = 1000 - sweeps
 
 phasors-of-requires : tie.Need-phasors-of-requires Inv-loop μ-loop
 phasors-of-requires c κs = search needs

@@ -5,10 +5,10 @@ use Rattle.floats.proofs.solver.upward.Statement.{statement}
 use Rattle.floats.proofs.solver.upward.Tie as tie
 
 abbrev Inv-loop : tie.InvT-loop
-Inv-loop rows order quantity i₀ branches left₀ i left = left < 201
+Inv-loop branches rows order quantity i₀ left₀ i left = left < 201
 
 abbrev μ-loop : tie.MeasureT-loop
-μ-loop rows order quantity i₀ branches left₀ i left = left
+μ-loop branches rows order quantity i₀ left₀ i left = left
 
 place-requires : tie.Need-place-requires Inv-loop μ-loop
 place-requires c κs = search needs
@@ -25,11 +25,8 @@ element-copy-out-place c = search needs
 place-requires-2 : tie.Need-place-requires-2 Inv-loop μ-loop
 place-requires-2 c κs = search needs
 
-mul-b : tie.Need-mul-b Inv-loop μ-loop
-mul-b c = search needs
-
-array-copy-out-b : tie.Need-array-copy-out-b Inv-loop μ-loop
-array-copy-out-b c = search needs
+branch-at-requires : tie.Need-branch-at-requires Inv-loop μ-loop
+branch-at-requires c κs = search needs
 
 place-requires-3 : tie.Need-place-requires-3 Inv-loop μ-loop
 place-requires-3 c κs = search needs
@@ -66,8 +63,7 @@ upward-spec =
     mul-place
     element-copy-out-place
     place-requires-2
-    mul-b
-    array-copy-out-b
+    branch-at-requires
     place-requires-3
     phasors-at-requires
     near-currents-requires

@@ -1,5 +1,6 @@
 -- `stages::check_currents` meets its contract: 53, 54, then 55. Assumes nothing.
 use mathlib.Core.Path.{_∙_, _≡_, ap, sym}
+use Rattle.answers.specs.Answers.{done, good}
 use Rattle.answers.specs.declared.Refusal.the-variants.{CurrentDiffers, VoltageOff}
 use Rattle.arrays.specs.Arrays.{networkOf, pairsOf, threesOf}
 use Rattle.equations.specs.Equations.{voltages}
@@ -9,10 +10,10 @@ use Rattle.passes.specs.Arrays.{held-in}
 use Rattle.deviations.specs.Deviations.{firstOff}
 use Rattle.report.specs.Report.{Reported}
 use Rattle.compare.specs.Differences.{currentDiffers}
-use Rattle.report_check.specs.Check.{voltageOff}
-use Rattle.report_check.specs.CheckChain.{from53, from54, from55}
+use Rattle.verdicts.specs.Check.{voltageOff}
+use Rattle.verdicts.specs.CheckChain.{from53, from54, from55}
 use Rattle.report_check.specs.CheckStages.{fails-at, goes-on}
-use Rattle.report_check.specs.ReportFaults.{workedCurrents}
+use Rattle.verdicts.specs.ReportFaults.{workedCurrents}
 use Rattle.report_check.specs.InHand.{Compared, InHand, off-held}
 use Rattle.report_reader.specs.Read.{ReportRead}
 use Rattle.sweeps.specs.SweepsLaws.{ready}
@@ -51,7 +52,7 @@ enum-known-differs c = search needs
 
 returns : tie.Need-returns
 unfolding from53
-returns c = λ f x t e h. fails-at CurrentDiffers (from54 f x) (sym (differs-is (c .before .before .before) f x t e h) ∙ c .before .differs .given .1)
+returns c = λ f x t e h. fails-at CurrentDiffers (from54 (good done) f x) (sym (differs-is (c .before .before .before) f x t e h) ∙ c .before .differs .given .1)
 
 enum-told : tie.Need-enum-told
 enum-told c = search needs
@@ -68,8 +69,8 @@ returns-2 : tie.Need-returns-2
 unfolding from53 from54
 returns-2 c = λ f x t e h.
     let n = c .before .before .before .before .before in
-    goes-on CurrentDiffers (from54 f x) (sym (differs-is (n .before .before) f x t e h) ∙ n .enum-told .given .1)
-    (fails-at VoltageOff (from55 f x) (sym (off-is (c .before .before .before) f x t e h) ∙ c .before .off .given .1))
+    goes-on CurrentDiffers (from54 (good done) f x) (sym (differs-is (n .before .before) f x t e h) ∙ n .enum-told .given .1)
+    (fails-at VoltageOff (from55 (good done) f x) (sym (off-is (c .before .before .before) f x t e h) ∙ c .before .off .given .1))
 
 enum-told-2 : tie.Need-enum-told-2
 enum-told-2 c = search needs
@@ -83,8 +84,8 @@ returns-3 : tie.Need-returns-3
 unfolding from53 from54
 returns-3 c = λ f x t e h.
     let n = c .before .before .before .before .before in
-    goes-on CurrentDiffers (from54 f x) (sym (differs-is (n .before .before) f x t e h) ∙ n .enum-told .given .1)
-    (goes-on VoltageOff (from55 f x) (sym (off-is (c .before .before .before) f x t e h) ∙ c .before .enum-told2 .given .1) (c .check-totals .ensures f x t (e .totalled) h))
+    goes-on CurrentDiffers (from54 (good done) f x) (sym (differs-is (n .before .before) f x t e h) ∙ n .enum-told .given .1)
+    (goes-on VoltageOff (from55 (good done) f x) (sym (off-is (c .before .before .before) f x t e h) ∙ c .before .enum-told2 .given .1) (c .check-totals .ensures f x t (e .totalled) h))
 
 pub check-currents-spec : {M : Type 1} → statement M
 check-currents-spec =

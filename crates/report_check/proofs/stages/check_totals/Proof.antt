@@ -10,9 +10,9 @@ use Rattle.feeder.specs.declared.Network.{Network}
 use Rattle.passes.specs.Arrays.{held-in}
 use Rattle.report.specs.Report.{Reported, reportedVoltages}
 use Rattle.compare.specs.Differences.{totalDiffers}
-use Rattle.report_check.specs.CheckChain.{from55}
+use Rattle.verdicts.specs.CheckChain.{from55}
 use Rattle.report_check.specs.CheckStages.{fails-if, passes}
-use Rattle.report_check.specs.ReportFaults.{workedCurrents}
+use Rattle.verdicts.specs.ReportFaults.{workedCurrents}
 use Rattle.report_check.specs.InHand.{InHand, Totalled, losses-held, lost-held, sent-held}
 use Rattle.report_reader.specs.Read.{ReportRead}
 use Rattle.sweeps.specs.SweepsLaws.{ready, source-fits}

@@ -1,12 +1,13 @@
--- `report_tables::totals::read_totals` meets its contract: the line of names, the row, the end of the report. Assumes nothing.
+-- `report_tables::totals::read_totals` meets its contract: the line of names, and the row. Assumes nothing.
 use mathlib.Core.Bool.{true}
 use mathlib.Core.Path.{_∙_, _≡_, refl, sym}
 use borrow.Author.Needs.{needs}
+use native.Mathlib.Omega.{arith}
 use borrow.Author.Tests.{not-false, not-true}
 use Rattle.answers.specs.declared.Refusal.the-variants.{ReportLayout}
 use Rattle.text.specs.Text.{begins, bytes}
 use Rattle.report_tables.specs.AnswerLaws.{held-answer, refused-answer}
-use Rattle.report_tables.specs.LastLaws.{last-bad, last-more, last-no-names, last-whole}
+use Rattle.report_tables.specs.TotalsLaws.{last-bad, last-no-names, last-whole}
 use Rattle.report_tables.proofs.totals.read_totals.Statement.{statement}
 use Rattle.report_tables.proofs.totals.read_totals.Tie as tie
 
@@ -41,10 +42,7 @@ returns-2 : tie.Need-returns-2
 returns-2 c = refused-answer (last-bad _ _ _ (names (c .before .before .before .before .before)) (c .before .before .before .read-numbers .ensures .0 ReportLayout) (c .enum-told .given .1)) refl
 
 returns-3 : tie.Need-returns-3
-returns-3 c = refused-answer (last-more _ _ _ (names (c .before .before .before .before .before .before .before)) (c .before .before .before .before .before .read-numbers .ensures .0 ReportLayout) _ (c .before .before .next .given .1) (c .if2 .taken)) refl
-
-returns-4 : tie.Need-returns-4
-returns-4 c = held-answer (record { whole = last-whole _ _ _ (names (c .before .before .before .before .before .before .before)) (c .before .before .before .before .before .read-numbers .ensures .0 ReportLayout) _ (c .before .before .next .given .1) (c .if2 .left); seven = search needs }) refl
+returns-3 c = held-answer (record { whole = last-whole _ _ _ (names (c .before .before .before .before .before .before)) (c .before .before .before .before .read-numbers .ensures .0 ReportLayout) _ (c .before .next .given .1); seven = search needs; within = c .before .before .before .before .read-numbers .ensures .1 _ (c .before .next .given .1) (omega arith) .1 }) refl
 
 pub read-totals-spec : {M : Type 1} → statement M
 read-totals-spec =
@@ -58,5 +56,4 @@ read-totals-spec =
     enum-known-next
     enum-told
     returns-2
-    returns-3
-    returns-4)
+    returns-3)

@@ -7,14 +7,14 @@ use lib.ListN.{length, length-append}
 use Rattle.arrays.specs.Arrays.{branchesOf, pairsOf, threesOf}
 use Rattle.report_writer.specs.TableLaws.{branch-table-length}
 use Rattle.report_writer.specs.Tables.{branchLineAt, branchTable, linesFrom}
-use Rattle.report_writer.specs.Writing.{Writing, dueFrom, end-room, end-written, line-room, line-written, writing-all}
+use Rattle.report_writer.specs.Writing.{Writing, dueFrom, emptyLine, end-room, end-written, line-room, line-written, writing-all}
 use Rattle.text.specs.Stores.{written-behind}
 use Rattle.text.specs.Text.{bytes}
 use Rattle.report_writer.proofs.tables.put_branches.Statement.{statement}
 use Rattle.report_writer.proofs.tables.put_branches.Tie as tie
 
 abbrev Inv-loop : tie.InvT-loop
-Inv-loop out₀ nodes branches rows i losses at₀ row₀ out at row = Writing (branchLineAt nodes (branchesOf branches) (threesOf i) (pairsOf losses)) rows 1 out₀ at₀ out at row
+Inv-loop out₀ nodes branches rows i losses at₀ row₀ out at row = Writing (branchLineAt nodes (branchesOf branches) (threesOf i) (pairsOf losses)) emptyLine rows 1 out₀ at₀ out at row
 
 abbrev μ-loop : tie.MeasureT-loop
 μ-loop out₀ nodes branches rows i losses at₀ row₀ out at row = rows + 1 - row
@@ -22,7 +22,7 @@ abbrev μ-loop : tie.MeasureT-loop
 -- behind the column names there is room for the lines and the empty line
 room : (c : tie.At-loop Inv-loop μ-loop) →
     let a = c .before .before .before .before .before .before .before .args in
-    c .before .before .before .put-bytes .result + length (dueFrom (branchLineAt (a .nodes .now) (branchesOf (a .branches .now)) (threesOf (a .i .now)) (pairsOf (a .losses .now))) 1 (a .rows)) ≤ length (c .before .before .before .put-bytes .last .0)
+    c .before .before .before .put-bytes .result + length (dueFrom (branchLineAt (a .nodes .now) (branchesOf (a .branches .now)) (threesOf (a .i .now)) (pairsOf (a .losses .now))) emptyLine 1 (a .rows)) ≤ length (c .before .before .before .put-bytes .last .0)
 room c =
     let a = c .before .before .before .before .before .before .before .args in
     let g = branchLineAt (a .nodes .now) (branchesOf (a .branches .now)) (threesOf (a .i .now)) (pairsOf (a .losses .now)) in
@@ -35,7 +35,7 @@ put-bytes-requires : tie.Need-put-bytes-requires Inv-loop μ-loop
 put-bytes-requires c κs = let a = c .before .before .before .args in omega (arith, branch-table-length (branchLineAt (a .nodes .now) (branchesOf (a .branches .now)) (threesOf (a .i .now)) (pairsOf (a .losses .now))) (a .rows), c .before .before .before .pre .1 .1)
 
 loop-holds : tie.Need-loop-holds Inv-loop μ-loop
-loop-holds c = writing-all _ _ _ _ _
+loop-holds c = writing-all _ _ _ _ _ _
 
 -- the from-node of a row has a name
 from : (c : tie.After-from-at Inv-loop μ-loop) → c .from-at .result < 201

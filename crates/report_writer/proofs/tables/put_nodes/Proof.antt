@@ -7,14 +7,14 @@ use lib.ListN.{length, length-append}
 use Rattle.arrays.specs.Arrays.{threesOf}
 use Rattle.report_writer.specs.TableLaws.{node-table-length}
 use Rattle.report_writer.specs.Tables.{linesFrom, nodeLineAt, nodeTable}
-use Rattle.report_writer.specs.Writing.{Writing, dueFrom, end-room, end-written, line-room, line-written, writing-all}
+use Rattle.report_writer.specs.Writing.{Writing, dueFrom, emptyLine, end-room, end-written, line-room, line-written, writing-all}
 use Rattle.text.specs.Stores.{written-behind}
 use Rattle.text.specs.Text.{bytes}
 use Rattle.report_writer.proofs.tables.put_nodes.Statement.{statement}
 use Rattle.report_writer.proofs.tables.put_nodes.Tie as tie
 
 abbrev Inv-loop : tie.InvT-loop
-Inv-loop out₀ nodes rows v at₀ k₀ out at k = Writing (nodeLineAt nodes (threesOf v)) rows 0 out₀ at₀ out at k
+Inv-loop out₀ nodes rows v at₀ k₀ out at k = Writing (nodeLineAt nodes (threesOf v)) emptyLine rows 0 out₀ at₀ out at k
 
 abbrev μ-loop : tie.MeasureT-loop
 μ-loop out₀ nodes rows v at₀ k₀ out at k = rows + 1 - k
@@ -22,7 +22,7 @@ abbrev μ-loop : tie.MeasureT-loop
 -- behind the column names there is room for the lines and the empty line
 room : (c : tie.At-loop Inv-loop μ-loop) →
     let a = c .before .before .before .before .before .before .before .args in
-    c .before .before .before .put-bytes .result + length (dueFrom (nodeLineAt (a .nodes .now) (threesOf (a .v .now))) 0 (a .rows)) ≤ length (c .before .before .before .put-bytes .last .0)
+    c .before .before .before .put-bytes .result + length (dueFrom (nodeLineAt (a .nodes .now) (threesOf (a .v .now))) emptyLine 0 (a .rows)) ≤ length (c .before .before .before .put-bytes .last .0)
 room c =
     let a = c .before .before .before .before .before .before .before .args in
     let g = nodeLineAt (a .nodes .now) (threesOf (a .v .now)) in
@@ -35,7 +35,7 @@ put-bytes-requires : tie.Need-put-bytes-requires Inv-loop μ-loop
 put-bytes-requires c κs = let a = c .before .before .before .args in omega (arith, node-table-length (nodeLineAt (a .nodes .now) (threesOf (a .v .now))) (a .rows), c .before .before .before .pre .1)
 
 loop-holds : tie.Need-loop-holds Inv-loop μ-loop
-loop-holds c = writing-all _ _ _ _ _
+loop-holds c = writing-all _ _ _ _ _ _
 
 mul-name : tie.Need-mul-name Inv-loop μ-loop
 mul-name c = search needs

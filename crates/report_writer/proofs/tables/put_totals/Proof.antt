@@ -17,12 +17,15 @@ put-bytes-requires c κs = omega (arith, totals-table-length (c .before .before 
 put-totals-line-requires : tie.Need-put-totals-line-requires
 put-totals-line-requires c κs = (c .before .before .before .before .before .before .before .pre .0, omega (arith, totals-table-length (c .before .before .before .before .before .before .before .args .figures), c .before .before .before .before .before .before .before .pre .1, c .before .before .before .put-bytes .ensures .next, c .before .before .before .put-bytes .kept .0))
 
+put-byte-requires : tie.Need-put-byte-requires
+put-byte-requires c κs = omega (arith, totals-table-length (c .before .before .before .before .before .before .before .before .before .before .before .args .figures), c .before .before .before .before .before .before .before .before .before .before .before .pre .1, c .before .before .before .before .before .before .before .put-bytes .ensures .next, c .before .before .before .before .before .before .before .put-bytes .kept .0, c .before .before .before .put-totals-line .ensures .next, c .before .before .before .put-totals-line .kept .0)
+
 same-length : tie.Need-same-length
 same-length c = search needs
 
 returns : tie.Need-returns
 unfolding totalsTable bytes
-returns c = written-behind (c .before .before .before .before .before .before .put-bytes .ensures) (c .before .before .put-totals-line .ensures)
+returns c = written-behind (c .before .before .before .before .before .before .before .before .before .before .put-bytes .ensures) (written-behind (c .before .before .before .before .before .before .put-totals-line .ensures) (c .before .before .put-byte .ensures))
 
 pub put-totals-spec : {M : Type 1} → statement M
 put-totals-spec =
@@ -31,5 +34,6 @@ put-totals-spec =
     slice-aggregate-put-bytes
     put-bytes-requires
     put-totals-line-requires
+    put-byte-requires
     same-length
     returns)

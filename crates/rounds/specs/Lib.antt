@@ -1,0 +1,6 @@
+-- Definitions
+pub mod Rounds
+-- Laws
+pub mod RoundsLaws
+pub mod Moving
+pub mod Turns
