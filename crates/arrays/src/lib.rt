@@ -36,7 +36,7 @@ pub type LoadNames = [u64; 300];
 pub type Places = [usize; 201];
 
 // What a feeder has besides its arrays: the source's voltages, the tolerance, the limit of sweeps, the number of branch rows and of load rows.
-#[derive(Drop)]
+#[derive(Clone, Copy)]
 pub struct Settings {
     pub source: Three,
     pub tol: u64,

@@ -4,7 +4,7 @@ use floats::phasor::{Phasor, PhasorRows, Phasors, distance, larger, phasors_at, 
 use floats::solver::place;
 
 // The largest distance in re or im, and the largest share of its bound that a distance has, each over all rows and phases.
-#[derive(Drop)]
+#[derive(Clone, Copy)]
 pub struct Compared {
     pub distance: f64,
     pub share: f64,

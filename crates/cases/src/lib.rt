@@ -63,7 +63,7 @@ fn end_of(text: &[u8], from: usize, size: usize) -> usize
 }
 
 // A case: its buffer's length, and where its feeder begins, where its report begins, and where it ends.
-#[derive(Drop)]
+#[derive(Clone, Copy)]
 pub struct Case {
     pub room: usize,
     pub feeder: usize,

@@ -4,7 +4,7 @@
 use feeder::Signs;
 
 // A row of signs for each phase.
-#[derive(Drop)]
+#[derive(Clone, Copy)]
 pub struct Matrix {
     pub a: Signs,
     pub b: Signs,
@@ -12,7 +12,7 @@ pub struct Matrix {
 }
 
 // A transformer connection's A, for voltages, and d, for currents.
-#[derive(Drop)]
+#[derive(Clone, Copy)]
 pub struct SignTable {
     pub voltage: Matrix,
     pub current: Matrix,

@@ -7,14 +7,14 @@ ghost use Rattle.feeder.specs.Feeder.{phase_signs};
 use integers::Pair;
 
 // A pair for each phase: the voltages at a node, or the currents of a branch.
-#[derive(Drop)]
+#[derive(Clone, Copy)]
 pub struct Three {
     pub a: Pair,
     pub b: Pair,
     pub c: Pair,
 }
 
-#[derive(Drop)]
+#[derive(Clone, Copy)]
 pub enum Phase {
     A,
     B,
@@ -22,7 +22,7 @@ pub enum Phase {
 }
 
 // What a load stands between: one phase and ground, or two phases.
-#[derive(Drop)]
+#[derive(Clone, Copy)]
 pub enum Terminals {
     OnA,
     OnB,
@@ -33,7 +33,7 @@ pub enum Terminals {
 }
 
 // What of each phase's voltage or current counts: -1, 0 or 1.
-#[derive(Drop)]
+#[derive(Clone, Copy)]
 pub struct Signs {
     pub a: i64,
     pub b: i64,
@@ -41,7 +41,7 @@ pub struct Signs {
 }
 
 // The phases that a branch or a node has.
-#[derive(Drop)]
+#[derive(Clone, Copy)]
 pub struct Phases {
     pub a: bool,
     pub b: bool,
@@ -49,7 +49,7 @@ pub struct Phases {
 }
 
 // A line's impedances. The matrix is symmetric.
-#[derive(Drop)]
+#[derive(Clone, Copy)]
 pub struct LineZ {
     pub aa: Pair,
     pub ab: Pair,
@@ -60,7 +60,7 @@ pub struct LineZ {
 }
 
 // A regulator's tap on each phase.
-#[derive(Drop)]
+#[derive(Clone, Copy)]
 pub struct Taps {
     pub a: i64,
     pub b: i64,
@@ -68,7 +68,7 @@ pub struct Taps {
 }
 
 // A regulator: its taps, and the relay that sets them where level is above 0: level and band in cV, potential ratio, current ratio, compensator R + jX.
-#[derive(Drop)]
+#[derive(Clone, Copy)]
 pub struct TapChanger {
     pub taps: Taps,
     pub level: i64,
@@ -79,14 +79,14 @@ pub struct TapChanger {
 }
 
 // Grounded wye to grounded wye, or delta to grounded wye.
-#[derive(Drop)]
+#[derive(Clone, Copy)]
 pub enum Connection {
     Wye,
     Delta,
 }
 
 // A transformer: turns ratio n / m, and the impedances on the low side.
-#[derive(Drop)]
+#[derive(Clone, Copy)]
 pub struct Windings {
     pub connection: Connection,
     pub n: i64,
@@ -94,7 +94,7 @@ pub struct Windings {
     pub z: Three,
 }
 
-#[derive(Drop)]
+#[derive(Clone, Copy)]
 pub enum Device {
     Line(LineZ),
     Regulator(TapChanger),
@@ -102,14 +102,14 @@ pub enum Device {
 }
 
 // The branch of row k feeds node k. Node 0 is the source.
-#[derive(Drop)]
+#[derive(Clone, Copy)]
 pub struct Branch {
     pub from: usize,
     pub phases: Phases,
     pub device: Device,
 }
 
-#[derive(Drop)]
+#[derive(Clone, Copy)]
 pub enum LoadKind {
     Power,
     Current,
@@ -117,7 +117,7 @@ pub enum LoadKind {
 }
 
 // s is (p, q) in VA.
-#[derive(Drop)]
+#[derive(Clone, Copy)]
 pub struct Load {
     pub node: usize,
     pub phase: Terminals,
@@ -147,7 +147,7 @@ pub struct LoadRow {
 }
 
 // The letter in a branch row's column "kind".
-#[derive(Drop)]
+#[derive(Clone, Copy)]
 pub enum Kind {
     L,
     R,
@@ -156,7 +156,7 @@ pub enum Kind {
 }
 
 // What p1 to p12 are in a kind of row: a number with its least and its greatest value and the phases that it belongs to, or nothing.
-#[derive(Drop)]
+#[derive(Clone, Copy)]
 pub enum Column {
     Given(i64, i64, Phases),
     Unused,

@@ -10,7 +10,7 @@ use crate::phasor::{
 use feeder::{Branch, Connection, Device, LineZ, Phases, Taps, Windings};
 
 // A matrix of real numbers, by rows.
-#[derive(Drop)]
+#[derive(Clone, Copy)]
 pub struct Ratios {
     pub a: Reals,
     pub b: Reals,
@@ -18,7 +18,7 @@ pub struct Ratios {
 }
 
 // A matrix of impedances, by rows.
-#[derive(Drop)]
+#[derive(Clone, Copy)]
 pub struct Impedances {
     pub a: Phasors,
     pub b: Phasors,
@@ -34,7 +34,7 @@ pub struct Component {
 }
 
 // What a sweep works with: voltages and currents, or bounds on how far they are off, which are lengths and stand in re.
-#[derive(Drop)]
+#[derive(Clone, Copy)]
 pub enum Quantity {
     Value,
     Bound,

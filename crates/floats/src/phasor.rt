@@ -5,14 +5,14 @@ use feeder::Three;
 use integers::Pair;
 
 // A voltage in cV, a current in mA, an impedance in µΩ, or a power in VA.
-#[derive(Drop)]
+#[derive(Clone, Copy)]
 pub struct Phasor {
     pub re: f64,
     pub im: f64,
 }
 
 // One for each phase.
-#[derive(Drop)]
+#[derive(Clone, Copy)]
 pub struct Phasors {
     pub a: Phasor,
     pub b: Phasor,
@@ -23,7 +23,7 @@ pub struct Phasors {
 pub type PhasorRows = [[f64; 6]; 201];
 
 // A real number for each phase.
-#[derive(Drop)]
+#[derive(Clone, Copy)]
 pub struct Reals {
     pub a: f64,
     pub b: f64,

@@ -132,7 +132,7 @@ fn first_place_squared(k: u32) -> u64
 }
 
 // A whole root, and how many steps were taken to it.
-#[derive(Drop)]
+#[derive(Clone, Copy)]
 pub struct Rooted {
     pub root: u64,
     pub steps: u32,

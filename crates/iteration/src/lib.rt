@@ -19,7 +19,7 @@ use integers::Pair;
 use sweeps::{Work, work_currents, work_voltages};
 
 // What a sweep comes to: one of the refusals 30 to 33, or voltages that moved no more than the tolerance, or a further sweep.
-#[derive(Drop)]
+#[derive(Clone, Copy)]
 pub enum Step {
     Stopped(Refusal),
     Settled,
@@ -27,21 +27,21 @@ pub enum Step {
 }
 
 // A sweep, and the power that the loads draw.
-#[derive(Drop)]
+#[derive(Clone, Copy)]
 pub struct Swept {
     pub step: Step,
     pub drawn: Pair,
 }
 
 // The end of the iteration: the number of sweeps made, or why there is no solution.
-#[derive(Drop)]
+#[derive(Clone, Copy)]
 pub enum Solving {
     Solved(usize),
     Unsolved(Refusal),
 }
 
 // The iteration, and the power drawn in the last sweep where it is solved.
-#[derive(Drop)]
+#[derive(Clone, Copy)]
 pub struct Run {
     pub solving: Solving,
     pub drawn: Pair,

@@ -23,7 +23,7 @@ use report_writer::{put_report, report_width};
 use rounds::regulate;
 
 // What the study answers: the length of the report that it wrote and the number of sweeps made, or why it wrote none.
-#[derive(Drop)]
+#[derive(Clone, Copy)]
 pub enum Study {
     Written(usize, usize),
     NoReport(Refusal),

@@ -20,7 +20,7 @@ pub struct Input {
 }
 
 // What one call of `read` did: how many bytes it moved, and whether it failed.
-#[derive(Drop)]
+#[derive(Clone, Copy)]
 struct Step {
     moved: usize,
     failed: bool,

@@ -7,7 +7,7 @@ pub mod lines;
 pub mod widths;
 
 // The numbers of the last line.
-#[derive(Drop)]
+#[derive(Clone, Copy)]
 pub struct Figures {
     pub sweeps: usize,
     pub source: Pair,

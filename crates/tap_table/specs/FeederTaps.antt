@@ -76,7 +76,10 @@ place_at c a (suc n) (suc i) q e =
     rest = chosen c (tab (λ k. k) (a + 1) n)
 
     go : (d : Bool) → place_of ((a + 1) + i) rest ≡ length (chosen c (tab (λ k. k) (a + 1) i)) → place_of (a + suc i) (cond d (a ∷ rest) rest) ≡ length (cond d (a ∷ chosen c (tab (λ k. k) (a + 1) i)) (chosen c (tab (λ k. k) (a + 1) i)))
-    go true h = let z : a + suc i ≡ (a + 1) + i = omega arith in rw (ne_eqb (a + suc i) a (λ w. omega arith), z) (ap suc h)
+    go true h =
+        let z : a + suc i ≡ (a + 1) + i = omega arith in
+        let g : place_of (a + suc i) rest ≡ length (chosen c (tab (λ k. k) (a + 1) i)) = rw z h in
+        rw (ne_eqb (a + suc i) a (λ w. omega arith)) (ap suc g)
     go false h = let z : a + suc i ≡ (a + 1) + i = omega arith in rw z h
 
 place_none : (c : ℕ → Bool) (k : ℕ) (l : List ℕ) → c k ≡ false → place_of k (chosen c l) ≡ length (chosen c l)

@@ -7,14 +7,14 @@ pub mod read;
 pub mod write;
 
 // A number read at a place, and the place behind its separator.
-#[derive(Drop)]
+#[derive(Clone, Copy)]
 pub enum Field {
     Number(i64, usize),
     NotNumber,
 }
 
 // A name read at a place, packed, and the place behind its separator.
-#[derive(Drop)]
+#[derive(Clone, Copy)]
 pub enum Word {
     Name(u64, usize),
     NoName,

@@ -17,7 +17,7 @@ use reading::{ReadAnswer, read_feeder};
 use study_answer::put_study_answer;
 use text::write::put_bytes;
 
-#[derive(Drop)]
+#[derive(Clone, Copy)]
 enum Kind {
     Reading,
     Study,

@@ -3,7 +3,7 @@
 
 use answers::Refusal;
 
-#[derive(Drop)]
+#[derive(Clone, Copy)]
 pub enum Verdict {
     Pass,
     Fail(Refusal),

@@ -16,8 +16,8 @@ use Rattle.integers.specs.Whole.{pos_part, neg_part, one-part, abs-parts, add_pa
 use Rattle.integers.specs.Machine.{sfits, read}
 use Rattle.integers.specs.Rounding.{rnd}
 use Rattle.integers.specs.RoundingLaws.{near-stay, near_next}
-use Rattle.integers.proofs.whole.rnd_div.Statement.{statement}
-use Rattle.integers.proofs.whole.rnd_div.Tie as tie
+use Rattle.integers.proofs.whole.rnd_div.Goals as goal
+use Rattle.integers.proofs.whole.rnd_div.Goals.{Else-b-r, Else-b-r-2, Else-r-ge0, Start, Then-b-r, Then-b-r-2, Then-r-ge0}
 
 -- what is known of the parameters
 record Given (a b : ℤ) : Type 0 where
@@ -25,7 +25,7 @@ record Given (a b : ℤ) : Type 0 where
   divisor : SFits w64 b
   positive : pos 0 <ℤ b
 
-given : (c : tie.Start) → Given c.args.a c.args.b
+given : (c : Start) → Given c.args.a c.args.b
 given c = record { dividend = c.ranges.a; divisor = c.ranges.b; positive = c.requires }
 
 bits_pos : (b : ℤ) → pos 0 <ℤ b → 0 < of_z w64 b
@@ -82,11 +82,11 @@ away-down {a = negsuc n} {b = pos d} g t h =
     (neg-less (suc n / d) ∙ sym (ap (λ (k : ℕ). neg_ℤ (pos k)) (e ∙ add-one (suc n / d))), rw neg-less (record { sfits = omega (arith, div-add-mod' (suc n) d, le-mul_of_pos_right (suc n / d) p, g.dividend.sfits, abs_neg (pos (suc n % d)), mod-lt (suc n) p) }))
 away-down {b = negsuc d} g t h = absurd g.positive.lt
 
-div-q : tie.Need-nonzero-div-q
-div-q c = (bits_pos c.args.b c.requires, rw (to_z-of_z c.ranges.a, to_z-of_z c.ranges.b) (fits-quot (given c)))
+pub nonzero_div-q : goal.nonzero_div-q
+nonzero_div-q c = (bits_pos c.args.b c.requires, rw (to_z-of_z c.ranges.a, to_z-of_z c.ranges.b) (fits-quot (given c)))
 
-rem-r : tie.Need-nonzero-rem-r
-rem-r c = div-q c
+pub nonzero_rem-r : goal.nonzero_rem-r
+nonzero_rem-r c = nonzero_div-q c
 
 -- what `omega` is told of b, which is from 1 to 2 ^ 63 − 1, of the remainder r, and of b − r, b + r and −r
 record Known (b r : ℤ) : Type 0 where
@@ -131,99 +131,85 @@ fits_neg : {a b : ℤ} → Given a b → SFits w64 (pos 0 -ℤ rem_z a b)
 fits_neg {a} {b} g = let k = known g in sfits (omega (arith, abs-parts (pos 0 -ℤ rem_z a b), one-part (pos 0 -ℤ rem_z a b)))
 
 -- ---- what each test of the code says of the whole numbers
-module _ (s : tie.Start) where
-  abbrev quotient : ℤ
-  quotient = quot_z s.args.a s.args.b
-
-  abbrev remainder : ℤ
-  remainder = rem_z s.args.a s.args.b
-
 -- the parameters, the quotient and the remainder are read as they are
-reads-q : (s : tie.Start) → read (quot_z (read s.args.a) (read s.args.b)) ≡ quotient s
+reads-q : (s : Start) → read (quot_z (read s.args.a) (read s.args.b)) ≡ quot_z s.args.a s.args.b
 reads-q s = simp (to_z-of_z s.ranges.a, to_z-of_z s.ranges.b, to_z-of_z (fits-quot (given s)))
 
-reads-r : (s : tie.Start) → read (rem_z (read s.args.a) (read s.args.b)) ≡ remainder s
+reads-r : (s : Start) → read (rem_z (read s.args.a) (read s.args.b)) ≡ rem_z s.args.a s.args.b
 reads-r s = simp (to_z-of_z s.ranges.a, to_z-of_z s.ranges.b, to_z-of_z (fits-rem (given s)))
 
-not-below : (c : tie.Then1) → le_z (pos 0) (remainder c.before) ≡ true
-not-below c = rw (reads-r c.before) at c.if1.true
+not-below : (c : Then-r-ge0) → le_z (pos 0) (rem_z c.args.a c.args.b) ≡ true
+not-below c = rw (reads-r (goal.at.Then-r-ge0 c).Start) at c.if-r-ge0.true
 
-below : (c : tie.Else1) → le_z (pos 0) (remainder c.before) ≡ false
-below c = rw (reads-r c.before) at c.if1.false
+below : (c : Else-r-ge0) → le_z (pos 0) (rem_z c.args.a c.args.b) ≡ false
+below c = rw (reads-r (goal.at.Else-r-ge0 c).Start) at c.if-r-ge0.false
 
-sub-if2 : tie.Need-overflow-sub-if2
-sub-if2 c = rw (reads-r c.before, to_z-of_z c.before.ranges.b) (fits-gap (given c.before) (not-below c))
+pub overflow_sub-b : goal.overflow_sub-b
+overflow_sub-b c = rw (reads-r (goal.at.overflow_sub-b c).Start, to_z-of_z c.ranges.b) (fits-gap (given (goal.at.overflow_sub-b c).Start) (not-below c))
 
-add-if3 : tie.Need-overflow-add-if3
-add-if3 c = rw (reads-r c.before, to_z-of_z c.before.ranges.b) (fits_sum (given c.before) (below c))
+pub overflow_add-b : goal.overflow_add-b
+overflow_add-b c = rw (reads-r (goal.at.overflow_add-b c).Start, to_z-of_z c.ranges.b) (fits_sum (given (goal.at.overflow_add-b c).Start) (below c))
 
-sub-if3 : tie.Need-overflow-sub-if3
-sub-if3 c = rw (reads-r c.before) (fits_neg (given c.before))
+pub overflow_sub-r : goal.overflow_sub-r
+overflow_sub-r c = rw (reads-r (goal.at.overflow_sub-r c).Start) (fits_neg (given (goal.at.overflow_sub-r c).Start))
 
 -- what is left to b is no larger than the remainder, or it is larger
-gap-small : (c : tie.Then2) → nat_abs c.before.before.args.b - nat_abs (remainder c.before.before) ≤ nat_abs (remainder c.before.before)
+gap-small : (c : Then-b-r) → nat_abs c.args.b - nat_abs (rem_z c.args.a c.args.b) ≤ nat_abs (rem_z c.args.a c.args.b)
 gap-small c =
-    let s = c.before.before in
-    let k = known (given s) in
-    let t = not-below c.before in
-    let u = rw (reads-r s, to_z-of_z s.ranges.b, to_z-of_z (fits-gap (given s) t)) at c.if2.true in
+    let k = known (given (goal.at.Then-b-r c).Start) in
+    let t = not-below (goal.at.Then-b-r c).Then-r-ge0 in
+    let u = rw (reads-r (goal.at.Then-b-r c).Start, to_z-of_z c.ranges.b, to_z-of_z (fits-gap (given (goal.at.Then-b-r c).Start) t)) at c.if-b-r.true in
     omega zarith
 
-gap-large : (c : tie.Else2) → nat_abs (remainder c.before.before) < nat_abs c.before.before.args.b - nat_abs (remainder c.before.before)
+gap-large : (c : Else-b-r) → nat_abs (rem_z c.args.a c.args.b) < nat_abs c.args.b - nat_abs (rem_z c.args.a c.args.b)
 gap-large c =
-    let s = c.before.before in
-    let k = known (given s) in
-    let t = not-below c.before in
-    let u = rw (reads-r s, to_z-of_z s.ranges.b, to_z-of_z (fits-gap (given s) t)) at c.if2.false in
+    let k = known (given (goal.at.Else-b-r c).Start) in
+    let t = not-below (goal.at.Else-b-r c).Then-r-ge0 in
+    let u = rw (reads-r (goal.at.Else-b-r c).Start, to_z-of_z c.ranges.b, to_z-of_z (fits-gap (given (goal.at.Else-b-r c).Start) t)) at c.if-b-r.false in
     omega zarith
 
-sum-small : (c : tie.Then3) → nat_abs c.before.before.args.b - nat_abs (remainder c.before.before) ≤ nat_abs (remainder c.before.before)
+sum-small : (c : Then-b-r-2) → nat_abs c.args.b - nat_abs (rem_z c.args.a c.args.b) ≤ nat_abs (rem_z c.args.a c.args.b)
 sum-small c =
-    let s = c.before.before in
-    let k = known (given s) in
-    let t = below c.before in
-    let u = rw (reads-r s, to_z-of_z s.ranges.b, to_z-of_z (fits_sum (given s) t), to_z-of_z (fits_neg (given s))) at c.if3.true in
+    let k : Known c.args.b (rem_z c.args.a c.args.b) = known (given (goal.at.Then-b-r-2 c).Start) in
+    let t : le_z (pos 0) (rem_z c.args.a c.args.b) ≡ false = below (goal.at.Then-b-r-2 c).Else-r-ge0 in
+    let u : le_z (c.args.b +ℤ rem_z c.args.a c.args.b) (pos 0 -ℤ rem_z c.args.a c.args.b) ≡ true = rw (reads-r (goal.at.Then-b-r-2 c).Start, to_z-of_z c.ranges.b, to_z-of_z (fits_sum (given (goal.at.Then-b-r-2 c).Start) t), to_z-of_z (fits_neg (given (goal.at.Then-b-r-2 c).Start))) at c.if-b-r-2.true in
     omega zarith
 
-sum-large : (c : tie.Else3) → nat_abs (remainder c.before.before) < nat_abs c.before.before.args.b - nat_abs (remainder c.before.before)
+sum-large : (c : Else-b-r-2) → nat_abs (rem_z c.args.a c.args.b) < nat_abs c.args.b - nat_abs (rem_z c.args.a c.args.b)
 sum-large c =
-    let s = c.before.before in
-    let k = known (given s) in
-    let t = below c.before in
-    let u = rw (reads-r s, to_z-of_z s.ranges.b, to_z-of_z (fits_sum (given s) t), to_z-of_z (fits_neg (given s))) at c.if3.false in
+    let k : Known c.args.b (rem_z c.args.a c.args.b) = known (given (goal.at.Else-b-r-2 c).Start) in
+    let t : le_z (pos 0) (rem_z c.args.a c.args.b) ≡ false = below (goal.at.Else-b-r-2 c).Else-r-ge0 in
+    let u : le_z (c.args.b +ℤ rem_z c.args.a c.args.b) (pos 0 -ℤ rem_z c.args.a c.args.b) ≡ false = rw (reads-r (goal.at.Else-b-r-2 c).Start, to_z-of_z c.ranges.b, to_z-of_z (fits_sum (given (goal.at.Else-b-r-2 c).Start) t), to_z-of_z (fits_neg (given (goal.at.Else-b-r-2 c).Start))) at c.if-b-r-2.false in
     omega zarith
 
-next_up : (c : tie.Then2) → (quotient c.before.before +ℤ pos 1 ≡ rnd c.before.before.args.a (nat_abs c.before.before.args.b)) × SFits w64 (quotient c.before.before +ℤ pos 1)
+next_up : (c : Then-b-r) → (quot_z c.args.a c.args.b +ℤ pos 1 ≡ rnd c.args.a (nat_abs c.args.b)) × SFits w64 (quot_z c.args.a c.args.b +ℤ pos 1)
 next_up c =
-    let g = given c.before.before in
-    away-up g (not-below c.before) (gap-small c)
+    let g = given (goal.at.Then-b-r c).Start in
+    away-up g (not-below (goal.at.Then-b-r c).Then-r-ge0) (gap-small c)
 
-next_down : (c : tie.Then3) → (quotient c.before.before -ℤ pos 1 ≡ rnd c.before.before.args.a (nat_abs c.before.before.args.b)) × SFits w64 (quotient c.before.before -ℤ pos 1)
+next_down : (c : Then-b-r-2) → (quot_z c.args.a c.args.b -ℤ pos 1 ≡ rnd c.args.a (nat_abs c.args.b)) × SFits w64 (quot_z c.args.a c.args.b -ℤ pos 1)
 next_down c =
-    let g = given c.before.before in
-    away-down g (below c.before) (sum-small c)
+    let g = given (goal.at.Then-b-r-2 c).Start in
+    away-down g (below (goal.at.Then-b-r-2 c).Else-r-ge0) (sum-small c)
 
-add-result : tie.Need-overflow-add-result
-add-result c = rw (reads-q c.before.before) (next_up c).1
+pub overflow_add-result : goal.overflow_add-result
+overflow_add-result c = rw (reads-q (goal.at.overflow_add-result c).Start) (next_up c).1
 
-sub-result : tie.Need-overflow-sub-result
-sub-result c = rw (reads-q c.before.before) (next_down c).1
+pub overflow_sub-result : goal.overflow_sub-result
+overflow_sub-result c = rw (reads-q (goal.at.overflow_sub-result c).Start) (next_down c).1
 
-returns : tie.Need-returns
-returns c = rw (reads-q c.before.before, to_z-of_z (next_up c).1) (next_up c).0
+pub returns-then-b-r : goal.returns-then-b-r
+returns-then-b-r c = rw (reads-q (goal.at.returns-then-b-r c).Start, to_z-of_z (next_up c).1) (next_up c).0
 
-returns-2 : tie.Need-returns-2
-returns-2 c =
-    let g = given c.before.before in
-    rw (reads-q c.before.before) (stay g (gap-large c))
+pub returns-else-b-r : goal.returns-else-b-r
+returns-else-b-r c =
+    let g = given (goal.at.returns-else-b-r c).Start in
+    rw (reads-q (goal.at.returns-else-b-r c).Start) (stay g (gap-large c))
 
-returns-3 : tie.Need-returns-3
-returns-3 c = rw (reads-q c.before.before, to_z-of_z (next_down c).1) (next_down c).0
+pub returns-then-b-r-2 : goal.returns-then-b-r-2
+returns-then-b-r-2 c = rw (reads-q (goal.at.returns-then-b-r-2 c).Start, to_z-of_z (next_down c).1) (next_down c).0
 
-returns-4 : tie.Need-returns-4
-returns-4 c =
-    let g = given c.before.before in
-    rw (reads-q c.before.before) (stay g (sum-large c))
-
-pub rnd-div-spec : {M : Type 1} → statement M
-rnd-div-spec = tie.close (tie.spec div-q rem-r sub-if2 add-result add-if3 sub-if3 sub-result returns returns-2 returns-3 returns-4)
+pub returns-else-b-r-2 : goal.returns-else-b-r-2
+returns-else-b-r-2 c =
+    let g = given (goal.at.returns-else-b-r-2 c).Start in
+    rw (reads-q (goal.at.returns-else-b-r-2 c).Start) (stay g (sum-large c))
