@@ -93,7 +93,7 @@ module _ (f : Feeder) (g : Network) (x : Reported) (t : ReportRead) (h : Held f 
       tap : (i k : ℕ) → i < k → k ≤ rows → tap_name_differs nodes tap_names (i + 1) k ≡ tap_bad (i + 1) k
       tap i k l s =
           let z : i + 1 - 1 ≡ i = omega arith in
-          let a : get_or tap_names i 0 ≡ word_of (get_or x.taps i no_row) 0 = at-kept 0 tap_names (map (λ y. word_of y 0) x.taps) i (o ∙ w.tap_names) (omega (arith, few)) ∙ ListN.get_or_map (λ (y : Row). word_of y 0) x.taps i no_row in
+          let a : get_or tap_names i 0 ≡ word_of (get_or x.taps i no_row) 0 = at-kept 0 tap_names (map (λ y. word_of y 0) x.taps) i (o ∙ w.tap_names) (omega (arith, few)) ∙ ListN.get_or-map (λ (y : Row). word_of y 0) x.taps i no_row in
           rw (z, a, name k (omega (arith, few)))
 
   pub source-tied : (source : Three) (voltages : List Three) → source ≡ g.source → voltages ≡ t.voltages →
