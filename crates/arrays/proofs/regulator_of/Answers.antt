@@ -7,37 +7,12 @@ use Rattle.feeder.specs.declared.Device.TheVariants.{Regulator}
 use Rattle.integers.specs.Machine.{read}
 use Rattle.text.specs.Lines.{nth}
 use borrow.Author.Rules.{rules}
-use Rattle.arrays.proofs.regulator_of.Statement.{statement}
-use Rattle.arrays.proofs.regulator_of.Tie as tie
+use Rattle.arrays.proofs.regulator_of.Goals as goal
 
-element-copy-out-a : tie.Need-element-copy-out-a
-element-copy-out-a c = search rules
-
-element-copy-out-b : tie.Need-element-copy-out-b
-element-copy-out-b c = search rules
-
-element-copy-out-c : tie.Need-element-copy-out-c
-element-copy-out-c c = search rules
-
-element-copy-out-level : tie.Need-element-copy-out-level
-element-copy-out-level c = search rules
-
-element-copy-out-band : tie.Need-element-copy-out-band
-element-copy-out-band c = search rules
-
-element-copy-out-potential : tie.Need-element-copy-out-potential
-element-copy-out-potential c = search rules
-
-element-copy-out-current : tie.Need-element-copy-out-current
-element-copy-out-current c = search rules
-
-pair-from-requires : tie.Need-pair-from-requires
-pair-from-requires c κs = search rules
-
-returns : tie.Need-returns
+pub returns : goal.returns
 unfolding device_of
 returns c =
-    let n = c.before.before.before.before.before.before.before.before.args.n.now in
+    let n = c.args.n.now in
     let a' : read (nth n 6) ≡ nth n 6 = search rules in
     let b' : read (nth n 7) ≡ nth n 7 = search rules in
     let c' : read (nth n 8) ≡ nth n 8 = search rules in
@@ -51,19 +26,5 @@ returns c =
       band = (band' ∙ sym (get_or-drop 5 n 4 (pos 0))) t;
       potential = (potential' ∙ sym (get_or-drop 5 n 5 (pos 0))) t;
       current = (current' ∙ sym (get_or-drop 5 n 6 (pos 0))) t;
-      z = c.pair-from.ensures t;
+      z = c.pair_from-z.ensures t;
     })
-
-pub regulator-of-spec : {M : Type 1} → statement M
-regulator-of-spec =
-    tie.close
-    (tie.spec
-    element-copy-out-a
-    element-copy-out-b
-    element-copy-out-c
-    element-copy-out-level
-    element-copy-out-band
-    element-copy-out-potential
-    element-copy-out-current
-    pair-from-requires
-    returns)
