@@ -1,0 +1,8 @@
+-- `threes::beyond` meets its contract: not all is within the limit. Assumes nothing.
+use mathlib.Core.Bool.{not}
+use mathlib.Core.Path.{◌∙◌, ap, sym}
+use Rattle.equations.specs.Sizes.{beyond3-not}
+use Rattle.devices.proofs.threes.beyond.Goals as goal
+
+pub returns : goal.returns
+returns c = ap not c.within-w.ensures ∙ sym (beyond3-not c.args.x)
