@@ -1,17 +1,11 @@
 -- `work_currents` meets its contract: what the loads draw, then the pass upward. Assumes nothing.
 use Rattle.std.proofs.Common.{refl}
-use Rattle.arrays.specs.Arrays.{network_of, threes_of}
+use Rattle.arrays.specs.Arrays.{threes_of}
 use Rattle.equations.specs.Equations.{loads_at}
-use Rattle.feeder.specs.declared.Network.{Network}
 use Rattle.sweeps.specs.SweepsLaws.{currents-spare, in-arrays, loads-ok, own_at, own_behind, ready, worked-fine, worked-over}
 use Rattle.sweeps.specs.declared.Work.TheVariants.{Fine as FineWork}
 use Rattle.sweeps.specs.declared.Worked.{Worked}
 use Rattle.sweeps.proofs.work_currents.Goals as goal
-use Rattle.sweeps.proofs.work_currents.Goals.{After-draw-d, In-Fine, Start}
-
--- the feeder and the voltages
-abbrev network : Start → Network
-network s = let a = s.args in network_of a.settings a.nodes.now a.branches.now a.loads.now a.order.now a.rank.now
 
 pub draw-d-requires-clause-loads_ok : goal.draw-d-requires-clause-loads_ok
 draw-d-requires-clause-loads_ok c = loads-ok c.requires.known (threes_of c.args.v.now) c.requires.by_index
