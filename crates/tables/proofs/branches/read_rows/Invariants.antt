@@ -1,0 +1,13 @@
+-- `tables::branches::read_rows` meets its contract: at each turn the rows read so far, in front of those that are left, are the whole. Assumes nothing.
+use Prim.Native.Nat.{◌-◌}
+use lib.ListN.{length}
+use Rattle.feeder.specs.Layout.{branch_row, empty_line}
+use Rattle.tables.specs.Read.{BranchesHeld}
+use Rattle.tables.specs.TableLaws.{Going}
+use Rattle.tables.proofs.branches.read_rows.Given as goal
+
+abbrev pub invariant-loop-row : goal.invariant-loop-row
+invariant-loop-row l = Going branch_row (empty_line l.part) (BranchesHeld l.source l.froms l.nodes l.branches) l.part 5 l.from l.at l.n
+
+abbrev pub decreases-loop-row : goal.decreases-loop-row
+decreases-loop-row l = length l.part - l.at
