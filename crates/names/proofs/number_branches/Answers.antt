@@ -1,0 +1,31 @@
+-- `number_branches` meets its contract: the rows that passed have their numbers, the others are as they were. Assumes nothing.
+use mathlib.Core.List.{List}
+use mathlib.Core.Path.{◌∙◌, ◌≡◌, ap}
+use Prim.Native.Nat.{◌+◌, ℕ}
+use native.Mathlib.Omega.{arith}
+use borrow.Author.Rules.{rules}
+use lib.IntN.{pos}
+use lib.ListN.{get_or, take}
+use Rattle.feeder.specs.Feeder.{place_of}
+use Rattle.integers.specs.Machine.{read}
+use Rattle.names.specs.Numbering.{branch-next, branches-all}
+use Rattle.names.proofs.number_branches.Goals as goal
+
+pub loop-i-init : goal.loop-i-init
+loop-i-init c = (omega arith, λ bs e n b. b)
+
+pub loop-i-preserved : goal.loop-i-preserved
+loop-i-preserved c =
+    let a = c.args in
+    let l = c.loop-i in
+    let z : read c.number_of-from.result ≡ c.number_of-from.result = search rules in (
+      omega arith,
+      λ bs e n b. rw (l.invariant.1 bs e n b, z)
+          (branch-next (take (a.count + 1) a.nodes.now) bs l.i c.number_of-from.result (omega arith) (omega arith)
+          (c.number_of-from.ensures.value ∙ ap (λ (names : List ℕ). pos (place_of (get_or names (l.i + 1) 0) (take (a.count + 1) a.nodes.now))) e)),
+    )
+
+pub returns : goal.returns
+returns c = λ bs e n b.
+    let a = c.args in
+    c.loop-i.invariant.1 bs e n b ∙ branches-all (take (a.count + 1) a.nodes.now) bs c.loop-i.i (omega arith)
