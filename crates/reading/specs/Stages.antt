@@ -1,6 +1,6 @@
 -- The reading goes on behind a test that finds nothing, and 11 by its three tables. Assumes nothing.
 use Rattle.std.specs.Prelude.{false, true, ◌≡◌, ℕ}
-use Rattle.answers.specs.Answers.{Outcome, ◌>>=◌, ◌>>◌, refuse_at, refused}
+use Rattle.answers.specs.Answers.{Outcome, ◌>>◌, refuse_at, refused}
 use Rattle.answers.specs.declared.Found.{Found}
 use Rattle.answers.specs.declared.Found.TheVariants.{At, Nothing}
 use Rattle.answers.specs.declared.Refusal.{Refusal}
