@@ -1,0 +1,13 @@
+-- `compare::absent_zero` meets its contract: phase by phase. Assumes nothing.
+use mathlib.Core.Bool.{cond, true}
+use mathlib.Core.Path.{◌∙◌}
+use Rattle.equations.specs.Equations.{at}
+use Rattle.equations.specs.Sizes.{all-of}
+use Rattle.feeder.specs.Feeder.{has}
+use Rattle.integers.specs.Pairs.{0c, same}
+use Rattle.compare.proofs.absent_zero.Goals as goal
+
+pub returns : goal.returns
+returns c =
+    let a = c.args in
+    c.all_of.ensures ∙ all-of (λ p. cond (has a.phases p) true (same (at a.x p) 0c)) c.zero_unless-a.ensures c.zero_unless-b.ensures c.zero_unless-c.ensures
