@@ -8,7 +8,10 @@ ghost use Rattle.programs.specs.Input.{ReadWhole};
 
 use answer_text::put_refusal;
 use answers::Refusal;
-use libc::{STDIN_FILENO, STDOUT_FILENO};
+use std::env::Env;
+use std::fs::Files;
+use std::io::{Error, ErrorKind, Read};
+use std::{fs, io, str};
 
 // What was read: how many bytes stand at the start of the room, and why no more was read: the room is full, or a read failed; else the input ended. A room
 // has one byte more than 65,536, which is enough for a longer file to meet refusal 9.
@@ -26,28 +29,46 @@ struct Step {
     failed: bool,
 }
 
-// One more read, to the place behind the bytes that are there.
-fn read_behind(fd: i32, file: &mut [u8], size: usize) -> Step
+// Names on standard error what failed, and why. Where that cannot be written, nothing is left to tell it to.
+fn tell(rt: &impl Eprint, what: &str, why: Error) {
+    let _ = eprintln!(rt; "{what}: {why}");
+}
+
+// One more read, to the place behind the bytes that are there. A failure is named as that of `what`.
+fn read_behind<R: Read>(
+    rt: &impl Eprint,
+    what: &str,
+    reader: &mut R,
+    file: &mut [u8],
+    size: usize,
+) -> Step
     requires { size ≤ length file.old }
     ensures { size + result.moved ≤ length file.old }
 {
-    let got = libc::read(fd, &mut file[size..]);
-    let moved = io::count(got, &file[size..]);
-    Step {
-        moved,
-        failed: got < 0,
+    match reader.read(&mut file[size..]) {
+        Ok(moved) => Step {
+            moved,
+            failed: false,
+        },
+        Err(why) => {
+            tell(rt, what, why);
+            Step {
+                moved: 0,
+                failed: true,
+            }
+        }
     }
 }
 
-// A file that is open, to its end: the whole of it, or more than 65,536 bytes.
-fn read_whole(fd: i32, file: &mut [u8]) -> Input
+// What a reader has, to its end: the whole of it, or more than 65,536 bytes. A failure is named as that of `what`.
+fn read_whole<R: Read>(rt: &impl Eprint, what: &str, reader: &mut R, file: &mut [u8]) -> Input
     requires { length file.old ≡ 65537 }
     ensures whole { ReadWhole result }
     ensures part { IsPrefixLen result.size file.new }
 {
     let mut size: usize = 0;
     while size < 65537 {
-        let step = read_behind(fd, file, size);
+        let step = read_behind(rt, what, reader, file, size);
         if step.moved == 0 {
             return Input {
                 size,
@@ -65,65 +86,78 @@ fn read_whole(fd: i32, file: &mut [u8]) -> Input
 }
 
 // Standard input.
-pub fn read_input(file: &mut [u8]) -> Input
+pub fn read_input(rt: &(impl io::Input + Eprint), file: &mut [u8]) -> Input
     requires { length file.old ≡ 65537 }
     ensures whole { ReadWhole result }
     ensures part { IsPrefixLen result.size file.new }
 {
-    let input = read_whole(STDIN_FILENO, file);
-    if input.failed {
-        os::fail(b"standard input");
-    }
-    input
+    let mut reader = rt.reader();
+    read_whole(rt, "standard input", &mut reader, file)
 }
 
-// The file that an argument names. Where there is no such argument, the usage is told.
-pub fn read_argument(index: usize, usage: &[u8], file: &mut [u8]) -> Input
-    requires { length file.old ≡ 65537 }
+// What stands for a file that cannot be opened. It is named as `what`.
+fn unread(rt: &impl Eprint, what: &str, why: Error) -> Input
     ensures whole { ReadWhole result }
-    ensures part { IsPrefixLen result.size file.new }
+    ensures nothing { result.size ≡ 0 }
 {
-    let failed = Input {
+    tell(rt, what, why);
+    Input {
         size: 0,
         full: false,
         failed: true,
+    }
+}
+
+// The file of a path.
+fn read_file(rt: &(impl Files + Eprint), path: &str, file: &mut [u8]) -> Input
+    requires { length file.old ≡ 65537 }
+    ensures whole { ReadWhole result }
+    ensures part { IsPrefixLen result.size file.new }
+{
+    match fs::open(rt, path) {
+        Ok(mut reader) => read_whole(rt, path, &mut reader, file),
+        Err(why) => unread(rt, path, why),
+    }
+}
+
+// The file that an argument names. Where there is no such argument, the usage is told.
+pub fn read_argument(
+    rt: &(impl Env + Files + Eprint),
+    index: usize,
+    usage: &str,
+    file: &mut [u8],
+) -> Input
+    requires { length file.old ≡ 65537 }
+    ensures whole { ReadWhole result }
+    ensures part { IsPrefixLen result.size file.new }
+{
+    let mut path = [0u8; 4096];
+    let Ok(length) = rt.arg(index, &mut path) else {
+        return unread(rt, usage, Error::from(ErrorKind::InvalidInput));
     };
-    let mut path = io::buffer();
-    let length = os::arg(index, &mut path);
-    if os::errno() != 0 {
-        os::fail(usage);
-        return failed;
-    }
-    let fd = os::open_read(&path[..length]);
-    if fd < 0 {
-        os::fail(&path[..length]);
-        return failed;
-    }
-    let input = read_whole(fd, file);
-    if input.failed {
-        os::fail(&path[..length]);
-    }
-    libc::close(fd);
-    input
+    let Ok(name) = str::from_utf8(&path[..length]) else {
+        return unread(rt, "a file's name", Error::from(ErrorKind::InvalidFilename));
+    };
+    read_file(rt, name, file)
 }
 
 // Answers whether all was written.
-pub fn print(words: &[u8]) -> bool {
-    io::write_all(STDOUT_FILENO, words)
+pub fn print(rt: &impl Print, words: &[u8]) -> bool {
+    rt.write_all(words).is_ok()
 }
 
 // A program's answer.
-pub fn print_answer(answer: &[u8]) {
-    if !print(answer) {
-        os::fail(b"standard output");
+pub fn print_answer(rt: &(impl Print + Eprint), answer: &[u8]) {
+    if let Err(why) = rt.write_all(answer) {
+        tell(rt, "standard output", why);
     }
 }
 
 // The line "refused NUMBER VALUE". Answers whether all was written.
-pub fn print_refusal(x: Refusal) -> bool {
-    let mut line = io::buffer();
+pub fn print_refusal(rt: &impl Print, x: Refusal) -> bool {
+    let mut line = [0u8; 4096];
     let n = put_refusal(&mut line, x);
-    print(&line[..n])
+    print(rt, &line[..n])
 }
 
 // How many bytes at the buffer's start are in use: size, which is never more than the buffer has.
