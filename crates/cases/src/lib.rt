@@ -3,9 +3,13 @@
 #![tactic(auto)]
 
 ghost use Rattle.std.specs.Prelude.{◌+◌, ◌≤◌, min, length};
+ghost use Rattle.std.specs.Io.{ReadsAtMost};
 
 use archive::unpack;
 use integers::whole;
+use std::fs::Files;
+use std::io::Read;
+use std::{fs, io};
 use text::Field;
 use text::read::read_number;
 
@@ -14,17 +18,37 @@ pub fn text_space() -> [u8; 2097152] {
     [0; 2097152]
 }
 
-// The cases of a file, unpacked. The answer is how many bytes they have.
-pub fn read_cases(name: &[u8], text: &mut [u8]) -> usize {
-    let fd = os::open_read(name);
-    if fd < 0 {
-        os::fail(name);
-        return 0;
+// Reads until the room is full or the input ends. The answer is how many bytes were read.
+fn read_full<R: Read>(reader: &mut R, room: &mut [u8]) -> io::Result<usize>
+    ensures { ReadsAtMost result room.new }
+{
+    let mut size: usize = 0;
+    while size < room.len() {
+        let moved = reader.read(&mut room[size..])?;
+        if moved == 0 {
+            break;
+        }
+        size += moved;
     }
+    Ok(size)
+}
+
+fn unpack_file(rt: &impl Files, name: &str, text: &mut [u8]) -> io::Result<usize> {
+    let mut file = fs::open(rt, name)?;
     let mut packed = [0u8; 262144];
-    let size = io::read_full(fd, &mut packed);
-    libc::close(fd);
-    unpack(&packed[..size], text)
+    let size = read_full(&mut file, &mut packed)?;
+    Ok(unpack(&packed[..size], text))
+}
+
+// The cases of a file, unpacked. The answer is how many bytes they have. A file that cannot be read is named on standard error, and has none.
+pub fn read_cases(rt: &(impl Files + Eprint), name: &str, text: &mut [u8]) -> usize {
+    match unpack_file(rt, name, text) {
+        Ok(size) => size,
+        Err(why) => {
+            let _ = eprintln!(rt; "{name}: {why}");
+            0
+        }
+    }
 }
 
 // A number and the place behind its separator. Where no number stands, that is 0 and the text's end.
