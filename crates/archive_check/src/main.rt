@@ -5,20 +5,20 @@
 use check_answer::put_check_answer;
 use programs::{print_answer, read_argument};
 
-fn main() {
+fn main(rt: HostRuntime) {
     let mut feeder = [0u8; 65537];
     let mut report = [0u8; 65537];
-    let mut out = io::buffer();
-    let first = read_argument(1, b"usage: archive_check FEEDER REPORT", &mut feeder);
+    let mut out = [0u8; 4096];
+    let first = read_argument(&rt, 1, "usage: archive_check FEEDER REPORT", &mut feeder);
     if first.failed {
         return;
     }
-    let second = read_argument(2, b"usage: archive_check FEEDER REPORT", &mut report);
+    let second = read_argument(&rt, 2, "usage: archive_check FEEDER REPORT", &mut report);
     if second.failed {
         return;
     }
     let n = first.size;
     let m = second.size;
     let length = put_check_answer(&feeder[..n], &report[..m], &mut out);
-    print_answer(&out[..length]);
+    print_answer(&rt, &out[..length]);
 }

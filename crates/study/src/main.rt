@@ -5,14 +5,14 @@
 use programs::{print_answer, read_input};
 use study_answer::put_study_answer;
 
-fn main() {
+fn main(rt: HostRuntime) {
     let mut file = [0u8; 65537];
-    let mut out = io::large_buffer();
-    let input = read_input(&mut file);
+    let mut out = [0u8; 65536];
+    let input = read_input(&rt, &mut file);
     if input.failed {
         return;
     }
     let size = input.size;
     let length = put_study_answer(&file[..size], &mut out);
-    print_answer(&out[..length]);
+    print_answer(&rt, &out[..length]);
 }
