@@ -11,9 +11,9 @@ use cases::{Case, case_at, count_at, read_cases, text_space};
 use check_answer::put_check_answer;
 use integers::whole::root;
 use ladder::{Study, study_feeder};
-use libc::STDOUT_FILENO;
 use programs::{print, print_refusal, used};
 use reading::{ReadAnswer, read_feeder};
+use std::fs::Files;
 use study_answer::put_study_answer;
 use text::write::put_bytes;
 
@@ -41,12 +41,12 @@ fn binary(digits: &[u8]) -> u64 {
 }
 
 // Each of these writes the rest of a case's line, and answers whether it was written.
-fn try_reading(feeder: &[u8]) -> bool {
+fn try_reading(rt: &impl Print, feeder: &[u8]) -> bool {
     let read = read_feeder(feeder);
     let answer = read.answer;
     match answer {
-        ReadAnswer::Good => print(b"good\n"),
-        ReadAnswer::Refused(x) => print_refusal(x),
+        ReadAnswer::Good => print(rt, b"good\n"),
+        ReadAnswer::Refused(x) => print_refusal(rt, x),
     }
 }
 
@@ -102,18 +102,18 @@ fn tells(answer: Study, report: &[u8]) -> bool {
 }
 
 // The line of a refusal as the study's program writes it. Where the case's buffer has no room for it, nothing may be written, and the line is made anew.
-fn try_line(feeder: &[u8], room: usize, x: Refusal) -> bool {
+fn try_line(rt: &impl Print, feeder: &[u8], room: usize, x: Refusal) -> bool {
     let mut buffer = [7u8; 65536];
     let written = answer_in(feeder, &mut buffer, room);
     let n = used(written, &buffer);
     let whole = buffer_with(&buffer[..n]);
     if !check::same(&buffer, &whole) {
-        return print(b"differs\n");
+        return print(rt, b"differs\n");
     }
     if n == 0 {
-        return print_refusal(x);
+        return print_refusal(rt, x);
     }
-    print(&buffer[..n])
+    print(rt, &buffer[..n])
 }
 
 // Whether the study's program writes the report, and nothing behind it.
@@ -123,39 +123,36 @@ fn writes(feeder: &[u8], room: usize, report: &[u8]) -> bool {
     written == report.len() && check::same(&buffer, &buffer_with(report))
 }
 
-fn try_study(feeder: &[u8], report: &[u8], room: usize) -> bool {
+fn try_study(rt: &impl Print, feeder: &[u8], report: &[u8], room: usize) -> bool {
     let mut buffer = [7u8; 65536];
     let answer = study_in(feeder, &mut buffer, room);
     if !check::same(&buffer, &buffer_with(report)) || !tells(answer, report) {
-        return print(b"differs\n");
+        return print(rt, b"differs\n");
     }
     match answer {
         Study::Written(_, _) => {
             if !writes(feeder, room, report) {
-                return print(b"differs\n");
+                return print(rt, b"differs\n");
             }
-            print(b"good\n")
+            print(rt, b"good\n")
         }
-        Study::NoReport(x) => try_line(feeder, room, x),
+        Study::NoReport(x) => try_line(rt, feeder, room, x),
     }
 }
 
-fn try_check(feeder: &[u8], report: &[u8]) -> bool {
-    let mut line = io::buffer();
+fn try_check(rt: &impl Print, feeder: &[u8], report: &[u8]) -> bool {
+    let mut line = [0u8; 4096];
     let n = put_check_answer(feeder, report, &mut line);
-    print(&line[..n])
+    print(rt, &line[..n])
 }
 
-fn try_root(digits: &[u8]) -> bool {
+fn try_root(rt: &impl Print, digits: &[u8]) -> bool {
     let r = root(binary(digits));
-    io::print_decimal(STDOUT_FILENO, r.root);
-    print(b" ");
-    io::print_decimal(STDOUT_FILENO, r.steps as u64);
-    print(b"\n")
+    println!(rt; "{} {}", r.root, r.steps).is_ok()
 }
 
 // The line of one case, whose places lie in the text.
-fn try_case(kind: Kind, number: usize, text: &[u8], case: Case) -> bool
+fn try_case(rt: &impl Print, kind: Kind, number: usize, text: &[u8], case: Case) -> bool
     requires { (case.feeder ≤ case.report) × (case.report ≤ case.end) × (case.end ≤ length text.now) }
 {
     let from = case.feeder;
@@ -163,41 +160,39 @@ fn try_case(kind: Kind, number: usize, text: &[u8], case: Case) -> bool
     let end = case.end;
     let feeder = &text[from..middle];
     let report = &text[middle..end];
-    io::print_decimal(STDOUT_FILENO, number as u64);
-    print(b" ");
+    let _ = print!(rt; "{number} ");
     match kind {
-        Kind::Reading => try_reading(feeder),
-        Kind::Study => try_study(feeder, report, case.room),
-        Kind::Check => try_check(feeder, report),
-        Kind::Root => try_root(feeder),
+        Kind::Reading => try_reading(rt, feeder),
+        Kind::Study => try_study(rt, feeder, report, case.room),
+        Kind::Check => try_check(rt, feeder, report),
+        Kind::Root => try_root(rt, feeder),
     }
 }
 
-fn try_all(kind: Kind, text: &[u8]) {
+fn try_all(rt: &impl Print, kind: Kind, text: &[u8]) {
     let mut at = 0;
     let mut number: usize = 0;
     while at < text.len() {
         let case = case_at(text, at);
         number += 1;
-        try_case(kind, number, text, case);
+        try_case(rt, kind, number, text, case);
         at = case.end;
     }
 }
 
-fn try_file(kind: Kind, name: &[u8]) {
-    print(name);
-    print(b"\n");
+fn try_file(rt: &(impl Files + Print + Eprint), kind: Kind, name: &str) {
+    let _ = println!(rt; "{name}");
     let mut text = text_space();
-    let size = read_cases(name, &mut text);
+    let size = read_cases(rt, name, &mut text);
     let n = used(size, &text);
-    try_all(kind, &text[..n]);
+    try_all(rt, kind, &text[..n]);
 }
 
-fn main() {
-    try_file(Kind::Reading, b"reading");
-    try_file(Kind::Study, b"study");
-    try_file(Kind::Study, b"study_taps");
-    try_file(Kind::Check, b"check");
-    try_file(Kind::Check, b"check_taps");
-    try_file(Kind::Root, b"root");
+fn main(rt: HostRuntime) {
+    try_file(&rt, Kind::Reading, "reading");
+    try_file(&rt, Kind::Study, "study");
+    try_file(&rt, Kind::Study, "study_taps");
+    try_file(&rt, Kind::Check, "check");
+    try_file(&rt, Kind::Check, "check_taps");
+    try_file(&rt, Kind::Root, "root");
 }
