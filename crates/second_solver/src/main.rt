@@ -16,7 +16,6 @@ use feeder::Taps;
 use floats::phasor::PhasorRows;
 use floats::solver::{place, solve};
 use ladder::{Study, study_feeder};
-use libc::STDOUT_FILENO;
 use programs::{print, print_refusal, used};
 use reading::{ReadAnswer, read_into};
 use report_reader::read_report;
@@ -34,17 +33,15 @@ fn hundredths(x: f64) -> u64 {
 }
 
 // What is compared, the distance with its unit, and the share in per cent.
-fn print_compared(what: &[u8], c: Compared, unit: &[u8]) {
+fn print_compared(rt: &impl Print, what: &str, c: Compared, unit: &str) {
     let d = hundredths(c.distance);
     let share = hundredths(c.share);
-    print(what);
-    io::print_decimal(STDOUT_FILENO, d / 100);
-    print(b".");
-    io::print_decimal(STDOUT_FILENO, d / 10 % 10);
-    io::print_decimal(STDOUT_FILENO, d % 10);
-    print(unit);
-    io::print_decimal(STDOUT_FILENO, share);
-    print(b" %");
+    let _ = print!(rt;
+        "{what}{}.{}{}{unit}{share} %",
+        d / 100,
+        d / 10 % 10,
+        d % 10
+    );
 }
 
 fn within(voltages: Compared, currents: Compared) -> bool {
@@ -54,17 +51,18 @@ fn within(voltages: Compared, currents: Compared) -> bool {
     false
 }
 
-fn print_both(voltages: Compared, currents: Compared) {
+fn print_both(rt: &impl Print, voltages: Compared, currents: Compared) {
     if !within(voltages, currents) {
-        print(b" OVER:");
+        print(rt, b" OVER:");
     }
-    print_compared(b" voltage ", voltages, b" cV, share of bound ");
-    print_compared(b"; current ", currents, b" mA, share of bound ");
-    print(b"\n");
+    print_compared(rt, " voltage ", voltages, " cV, share of bound ");
+    print_compared(rt, "; current ", currents, " mA, share of bound ");
+    print(rt, b"\n");
 }
 
 // The line of a feeder with a report, behind its name, from its solution in floats.
 fn try_solved(
+    rt: &impl Print,
     settings: Settings,
     branches: &Branches,
     loads: &Loads,
@@ -90,14 +88,15 @@ fn try_solved(
         let rows = settings.rows;
         let v = compare(rows, solved_voltages, voltages, &voltage_bounds, e.moved);
         let i = compare(rows, solved_currents, currents, &current_bounds, 0.0);
-        print_both(v, i);
+        print_both(rt, v, i);
     } else {
-        print(b" OVER: there is no bound\n");
+        print(rt, b" OVER: there is no bound\n");
     }
 }
 
 // The line of a feeder with a report, behind its name. The branches hold the reported taps.
 fn try_report(
+    rt: &impl Print,
     settings: Settings,
     branches: &Branches,
     loads: &Loads,
@@ -117,6 +116,7 @@ fn try_report(
     );
     if s.settled {
         try_solved(
+            rt,
             settings,
             branches,
             loads,
@@ -127,26 +127,29 @@ fn try_report(
             currents,
         );
     } else {
-        print(b" OVER: the floats do not settle\n");
+        print(rt, b" OVER: the floats do not settle\n");
     }
 }
 
 // The feeder's limit of sweeps, and the sweeps in which the floats settle. Where the floats settle within that limit, it is the whole numbers that run in a circle.
-fn print_sweeps(limit: usize, sweeps: usize) {
-    if sweeps <= limit {
-        print(b" runs in a circle (34): limit ");
+fn print_sweeps(rt: &impl Print, limit: usize, sweeps: usize) {
+    let found = if sweeps <= limit {
+        "runs in a circle"
     } else {
-        print(b" is not settled (34): limit ");
-    }
-    io::print_decimal(STDOUT_FILENO, limit as u64);
-    print(b", the floats settle in ");
-    io::print_decimal(STDOUT_FILENO, sweeps as u64);
-    print(b" sweeps\n");
+        "is not settled"
+    };
+    let _ = println!(rt; " {found} (34): limit {limit}, the floats settle in {sweeps} sweeps");
 }
 
 // The line of a feeder that the study leaves unsettled (34), behind its name. The floats have the taps of the first round, so it is for feeders that have no
 // level above 0.
-fn try_unsettled(settings: Settings, branches: &Branches, loads: &Loads, order: &Places) {
+fn try_unsettled(
+    rt: &impl Print,
+    settings: Settings,
+    branches: &Branches,
+    loads: &Loads,
+    order: &Places,
+) {
     let mut voltages = [[0.0f64; 6]; 201];
     let mut currents = [[0.0f64; 6]; 201];
     let s = solve(
@@ -158,9 +161,9 @@ fn try_unsettled(settings: Settings, branches: &Branches, loads: &Loads, order: 
         &mut currents,
     );
     if s.settled {
-        print_sweeps(settings.limit, s.sweeps);
+        print_sweeps(rt, settings.limit, s.sweeps);
     } else {
-        print(b" is not settled (34), nor are the floats\n");
+        print(rt, b" is not settled (34), nor are the floats\n");
     }
 }
 
@@ -198,6 +201,7 @@ fn take_taps(rows: usize, taps: &TapRows, branches: &mut Branches) {
 
 // The line of a feeder in memory with the text of its report, behind its name. It is solved with the taps of the report's last table.
 fn try_written(
+    rt: &impl Print,
     settings: Settings,
     nodes: &Names,
     branches: &mut Branches,
@@ -233,14 +237,15 @@ fn try_written(
     );
     if read {
         take_taps(rows, &taps, branches);
-        try_report(settings, branches, loads, order, &voltages, &currents);
+        try_report(rt, settings, branches, loads, order, &voltages, &currents);
     } else {
-        print(b" OVER: the report is not read\n");
+        print(rt, b" OVER: the report is not read\n");
     }
 }
 
 // The line of a feeder in memory, behind its name, from what the study made of it and the buffer that it wrote.
 fn try_study(
+    rt: &impl Print,
     settings: Settings,
     nodes: &Names,
     branches: &mut Branches,
@@ -252,20 +257,21 @@ fn try_study(
     match study {
         Study::NoReport(x) => {
             if number_of(x) == 34 {
-                try_unsettled(settings, branches, loads, order);
+                try_unsettled(rt, settings, branches, loads, order);
             } else {
-                print(b" ");
-                print_refusal(x);
+                print(rt, b" ");
+                print_refusal(rt, x);
             }
         }
         Study::Written(size, _) => {
             let n = used(size, buffer);
-            try_written(settings, nodes, branches, loads, order, &buffer[..n]);
+            try_written(rt, settings, nodes, branches, loads, order, &buffer[..n]);
         }
     }
 }
 
 fn study_and_try(
+    rt: &impl Print,
     feeder: &[u8],
     settings: Settings,
     nodes: &Names,
@@ -273,12 +279,12 @@ fn study_and_try(
     loads: &Loads,
     order: &Places,
 ) {
-    let mut buffer = io::large_buffer();
+    let mut buffer = [0u8; 65536];
     let study = study_feeder(feeder, &mut buffer);
-    try_study(settings, nodes, branches, loads, order, study, &buffer);
+    try_study(rt, settings, nodes, branches, loads, order, study, &buffer);
 }
 
-fn try_feeder(feeder: &[u8]) {
+fn try_feeder(rt: &impl Print, feeder: &[u8]) {
     let mut nodes = [0u64; 201];
     let mut branches = [[0i64; 17]; 201];
     let mut loads = [[0i64; 6]; 300];
@@ -295,37 +301,45 @@ fn try_feeder(feeder: &[u8]) {
     let settings = read.settings;
     let answer = read.answer;
     match answer {
-        ReadAnswer::Good => study_and_try(feeder, settings, &nodes, &mut branches, &loads, &order),
+        ReadAnswer::Good => study_and_try(
+            rt,
+            feeder,
+            settings,
+            &nodes,
+            &mut branches,
+            &loads,
+            &order,
+        ),
         ReadAnswer::Refused(x) => {
-            print(b" ");
-            print_refusal(x);
+            print(rt, b" ");
+            print_refusal(rt, x);
         }
     }
 }
 
 // The line of one case, whose places lie in the text. Its first text is its name, and its second the feeder.
-fn try_case(text: &[u8], case: Case)
+fn try_case(rt: &impl Print, text: &[u8], case: Case)
     requires { (case.feeder ≤ case.report) × (case.report ≤ case.end) × (case.end ≤ length text.now) }
 {
     let from = case.feeder;
     let middle = case.report;
     let end = case.end;
-    print(&text[from..middle]);
-    try_feeder(&text[middle..end]);
+    print(rt, &text[from..middle]);
+    try_feeder(rt, &text[middle..end]);
 }
 
-fn try_all(text: &[u8]) {
+fn try_all(rt: &impl Print, text: &[u8]) {
     let mut at = 0;
     while at < text.len() {
         let case = case_at(text, at);
-        try_case(text, case);
+        try_case(rt, text, case);
         at = case.end;
     }
 }
 
-fn main() {
+fn main(rt: HostRuntime) {
     let mut text = text_space();
-    let size = read_cases(b"cases", &mut text);
+    let size = read_cases(&rt, "cases", &mut text);
     let n = used(size, &text);
-    try_all(&text[..n]);
+    try_all(&rt, &text[..n]);
 }
