@@ -8,7 +8,7 @@ use Rattle.account.specs.Account.{PowerAccount, allowance, branch_allowance, dif
 use Rattle.answers.specs.AnswerLaws.{same_good}
 use Rattle.answers.specs.Answers.{good}
 use Rattle.equations.specs.Equations.{acts_as, current_at, load_current, mix, rated, voltage_on, weight, zero3}
-use Rattle.equations.specs.LowVoltage.{acts-high, acts-low, as_impedance, motor}
+use Rattle.equations.proofs.LowVoltage.{acts-high, acts-low, as_impedance, motor}
 use Rattle.feeder.specs.Feeder.{Feeder, no_taps, reading}
 use Rattle.feeder.specs.declared.Connection.TheVariants.{Wye}
 use Rattle.feeder.specs.declared.Device.TheVariants.{Line, Regulator, Transformer}

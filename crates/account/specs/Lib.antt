@@ -2,5 +2,4 @@ pub mod Account
 pub mod Sums
 pub mod Powers
 pub mod RowBounds
-pub mod AccountLaw
 pub mod Clause

@@ -4,7 +4,7 @@ use Rattle.std.proofs.Common.{◌∙◌, ap, ap₂, sym, arith}
 use Rattle.std.proofs.Math.IntN.{*ℤ-zero, zero-*ℤ}
 use Rattle.account.specs.Sums.{sum}
 use Rattle.integers.specs.Lists.{csum}
-use Rattle.integers.specs.Near.{Near, mul-near, near_add, near-mono, near_mul, near-neg, rnd-near}
+use Rattle.integers.proofs.Near.{Near, mul-near, near_add, near-mono, near_mul, near-neg, rnd-near}
 use Rattle.integers.specs.Pairs.{0c, ◌+c◌, ◌-c◌, ◌·*◌, abs, rnd_pair, scaled, square}
 use Rattle.integers.specs.Ring.{ring}
 use Rattle.integers.specs.declared.Pair.{Pair}

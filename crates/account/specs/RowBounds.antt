@@ -10,7 +10,7 @@ use Rattle.account.specs.Sums.{near-sums, nsum-le, nsum-mul, sum, sum-add, sum-c
 use Rattle.equations.specs.Equations.{at, current_at, drop_of, each, kind_at, load_current, masked, minus3, mix, rated, row_at, sign_at, sign_table, taken_of, tap_divisor, through_of, voltage_on, weight, z_of, zero3}
 use Rattle.equations.specs.ThreeLaws.{Close3, at_each, at-masked, at-minus, at_zero, transposed}
 use Rattle.feeder.specs.Feeder.{abc, delta, has, phase_signs}
-use Rattle.feeder.specs.RowFacts.{Sized}
+use Rattle.feeder.proofs.RowFacts.{Sized}
 use Rattle.feeder.specs.declared.Device.{Device}
 use Rattle.feeder.specs.declared.Device.TheVariants.{Line, Regulator, Transformer}
 use Rattle.feeder.specs.declared.LineZ.{LineZ}
@@ -28,7 +28,7 @@ use Rattle.feeder.specs.declared.Three.{Three}
 use Rattle.feeder.specs.declared.Windings.{Windings}
 use Rattle.integers.specs.Bools.{clash}
 use Rattle.integers.specs.Lists.{csum, nsum}
-use Rattle.integers.specs.Near.{Near, abs-near, mul-near, near_div, near-mono, near-refl, near-sym, near-trans}
+use Rattle.integers.proofs.Near.{Near, abs-near, mul-near, near_div, near-mono, near-refl, near-sym, near-trans}
 use Rattle.integers.specs.Pairs.{0c, ◌+c◌, ◌-c◌, ◌·*◌, ◌·c◌, abs, rnd_pair, scaled, square}
 use Rattle.integers.specs.Ring.{ring}
 use Rattle.integers.specs.Whole.{add_parts, neg-neg, pos-neg}

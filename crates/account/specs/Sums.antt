@@ -5,7 +5,7 @@ use Rattle.std.proofs.Math.IntN.{*ℤ-zero, +ℤ_idl, +ℤ_idr}
 use Rattle.std.proofs.lemmas.Bool.{eqb-false}
 use Rattle.integers.specs.ListLaws.{all_map}
 use Rattle.integers.specs.Lists.{count, nsum, tab, All}
-use Rattle.integers.specs.Near.{Near, near_add, near-refl}
+use Rattle.integers.proofs.Near.{Near, near_add, near-refl}
 use Rattle.integers.specs.Ring.{mul-addℤ, ring}
 
 unfoldable pub sum : {X : Type 0} → (X → ℤ) → List X → ℤ

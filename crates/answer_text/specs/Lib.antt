@@ -1,4 +1,4 @@
 -- Definitions
 pub mod AnswerText
+
 -- Laws
-pub mod AnswerTextLaws

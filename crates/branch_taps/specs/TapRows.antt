@@ -5,7 +5,7 @@ use Rattle.arrays.specs.Arrays.{branch_of, kind_of, phases_in}
 use Rattle.feeder.specs.Feeder.{Feeder, branch_at, device_of, no_branch, no_taps, regulates, row_count, tapped_branch, with_taps}
 use Rattle.feeder.specs.Network.{branch_array}
 use Rattle.feeder.specs.NetworkLaws.{get_or_kept, length-kept}
-use Rattle.feeder.specs.TapLaws.{branch-tapped, count-tapped}
+use Rattle.feeder.proofs.TapLaws.{branch-tapped, count-tapped}
 use Rattle.feeder.specs.declared.Branch.{Branch}
 use Rattle.feeder.specs.declared.Device.TheVariants.{Regulator}
 use Rattle.feeder.specs.declared.Kind.{Kind}

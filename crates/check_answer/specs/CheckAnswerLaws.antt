@@ -3,12 +3,12 @@ use Rattle.std.specs.Prelude.{List, ◌≡◌, refl, ◌≤◌, ℕ, get_or, len
 use Rattle.std.proofs.Common.{ap, arith}
 use Rattle.account.specs.Account.{PowerAccount}
 use Rattle.answer_text.specs.AnswerText.{refused_line, text_told, whole_or_nothing}
-use Rattle.answer_text.specs.AnswerTextLaws.{refused-50, whole_room}
+use Rattle.answer_text.proofs.AnswerTextLaws.{refused-50, whole_room}
 use Rattle.answers.specs.Answers.{Done, Outcome, good, number_of, refused, value_of}
 use Rattle.answers.specs.declared.Refusal.{Refusal}
 use Rattle.check_answer.specs.CheckAnswer.{check_text, pass_line}
 use Rattle.verdicts.specs.Check.{check_of, checked, verdict_of}
-use Rattle.verdicts.specs.Demand.{demand3}
+use Rattle.verdicts.proofs.Demand.{demand3}
 use Rattle.verdicts.specs.declared.Verdict.TheVariants.{Fail, Pass}
 use Rattle.text.specs.Text.{bytes}
 

@@ -7,12 +7,12 @@ use Prim.Native.Nat.{◌*◌, ◌+◌, ◌-◌, ◌<◌, ◌≤◌, suc, zero, �
 use Rattle.std.proofs.Math.ListN
 use Rattle.answers.specs.declared.Found.TheVariants.{At, Nothing}
 use Rattle.equations.specs.Equations.{drawn_power, loss_of, lost_power, source_power, zero3}
-use Rattle.equations.specs.TapMoves.{moved_at}
+use Rattle.equations.proofs.TapMoves.{moved_at}
 use Rattle.equations.specs.Taps.{rests_at}
 use Rattle.feeder.specs.Feeder.{Feeder, branch_at, first_row, no_branch, or_else, parent, phases_of, row_count, rows_of}
 use Rattle.feeder.specs.Network.{Held, branch_array, kept}
 use Rattle.feeder.specs.NetworkLaws.{get_or_kept, kept-below}
-use Rattle.feeder.specs.TapLaws.{count-tapped}
+use Rattle.feeder.proofs.TapLaws.{count-tapped}
 use Rattle.feeder.specs.declared.Branch.{Branch}
 use Rattle.feeder.specs.declared.Network.{Network}
 use Rattle.feeder.specs.declared.Phases.{Phases}

@@ -10,7 +10,7 @@ use Rattle.equations.specs.Meets.{at-taken, taken_at}
 use Rattle.equations.specs.Sizes.{none_of}
 use Rattle.equations.specs.ThreeLaws.{at-masked, csum-none}
 use Rattle.feeder.specs.Feeder.{Feeder, branch_at, has, parent, phase_signs, phases_of, row_count, rows_of, stands_on}
-use Rattle.feeder.specs.RowFacts.{Formed, OfLoad}
+use Rattle.feeder.proofs.RowFacts.{Formed, OfLoad}
 use Rattle.feeder.specs.declared.Load.{Load}
 use Rattle.feeder.specs.declared.Phase.{Phase}
 use Rattle.feeder.specs.declared.Phase.TheVariants.{A, B, C}

@@ -9,10 +9,10 @@ use Rattle.equations.specs.Equations.{at}
 use Rattle.equations.specs.Limits.{Counted, DeviceOk, LoadOk, WindingsOk, between-counted, counted-more}
 use Rattle.equations.specs.Sizes.{Within3}
 use Rattle.feeder.specs.Feeder.{Feeder, above, between, branch_at, branch_in, column_of, delta, device_of, feeder_of, in_limit, load_in, load_of, nodes_of, out_of_limit, parent, reading, row_count, source_in, tap_at, tapped, taps_on, three_at, vn_most}
-use Rattle.feeder.specs.FeederLaws.{Sound, branch-is, node-reached, parent-known, row-count, row_of, sound}
-use Rattle.feeder.specs.RowFacts.{Formed, branch-in, column-in, few-branches, few-loads, load-facts, load-in, load-node}
+use Rattle.feeder.proofs.FeederLaws.{Sound, branch-is, node-reached, parent-known, row-count, row_of, sound}
+use Rattle.feeder.proofs.RowFacts.{Formed, branch-in, column-in, few-branches, few-loads, load-facts, load-in, load-node}
 use Rattle.feeder.specs.RowLaws.{held, or-none}
-use Rattle.feeder.specs.TapLaws.{Retapped, TapsIn, device-is, parent-same}
+use Rattle.feeder.proofs.TapLaws.{Retapped, TapsIn, device-is, parent-same}
 use Rattle.feeder.specs.declared.BranchRow.{BranchRow}
 use Rattle.feeder.specs.declared.Connection.{Connection}
 use Rattle.feeder.specs.declared.Connection.TheVariants.{Delta, Wye}

@@ -4,7 +4,6 @@ pub mod Taps
 -- Laws
 pub mod ThreeLaws
 pub mod Weight
-pub mod LowVoltage
 pub mod Sizes
 pub mod SumSizes
 pub mod Limits
@@ -13,4 +12,3 @@ pub mod Downward
 pub mod Upward
 pub mod Meets
 pub mod Absent
-pub mod TapMoves

@@ -22,7 +22,8 @@ use Rattle.feeder.specs.declared.Terminals.{Terminals}
 use Rattle.feeder.specs.declared.Three.{Three}
 use Rattle.feeder.specs.declared.Windings.{Windings}
 use Rattle.integers.specs.Bools.{both, true-T}
-use Rattle.integers.specs.PairLaws.{Within, square-bound, within-div, within-le, within_more, within-mul, within-mul-conj, within-rnd, within-scaled, within-sub}
+use Rattle.integers.specs.PairLaws.{Within, square-bound, within-le, within_more, within-mul, within-mul-conj, within-scaled, within-sub}
+use Rattle.integers.proofs.PairLaws.{within-div, within-rnd}
 use Rattle.integers.specs.Pairs.{◌-c◌, ◌·*◌, ◌·c◌, inside, rnd_pair, scaled, square}
 use Rattle.integers.specs.Root.{root}
 use Rattle.integers.specs.RootLaws.{root-bound}

@@ -12,7 +12,7 @@ use Rattle.equations.specs.Equations.{at, currents, downward, far_voltage, load_
 use Rattle.equations.specs.ThreeLaws.{at-cond, at_each, at-plus, at_sum, csum-cong, sum3-cong}
 use Rattle.equations.specs.Upward.{kirchhoff}
 use Rattle.feeder.specs.Feeder.{Feeder, branch_at, parent, phase_signs, row_count, rows_of}
-use Rattle.feeder.specs.RowFacts.{Formed, all-reached}
+use Rattle.feeder.proofs.RowFacts.{Formed, all-reached}
 use Rattle.feeder.specs.declared.Phase.{Phase}
 use Rattle.feeder.specs.declared.Three.{Three}
 use Rattle.integers.specs.ListLaws.{all-count, get_or-tab}

@@ -7,24 +7,8 @@ pub mod Faults
 -- Laws
 pub mod FirstLines
 pub mod RowLine
-pub mod LineReader
-pub mod TableRows
-pub mod FileBack
-pub mod FileRead
-pub mod LayoutFault
-pub mod TableFaults
-pub mod LayoutLine
 pub mod NetworkLaws
 pub mod RowLaws
 pub mod Reach
 pub mod Stages
-pub mod FeederLaws
-pub mod RowFacts
-pub mod ProperNames
 pub mod Pointing
-pub mod Standing
-pub mod NodeNames
-pub mod FeederFinds
-pub mod LineOfRow
-pub mod FeederPoints
-pub mod TapLaws

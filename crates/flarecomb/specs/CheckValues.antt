@@ -15,13 +15,13 @@ use Rattle.flarecomb.specs.Values.{LineUpTo, UpTo, at-up-to, first-up-to, or-up-
 use Rattle.integers.specs.ListLaws.{length-tab}
 use Rattle.integers.specs.Lists.{count}
 use Rattle.report.specs.Report.{Reported, report_of, reported_voltages, with_reported}
-use Rattle.report.specs.ReportRows.{only-50, rows-match}
+use Rattle.report.proofs.ReportRows.{only-50, rows-match}
 use Rattle.compare.specs.Differences.{current_differs, name_differs, same3, source_differs, tap_differs, total_differs}
 use Rattle.verdicts.specs.Check.{check_of, checked, compared, voltage_off}
-use Rattle.verdicts.specs.Passed.{fail-refused}
+use Rattle.verdicts.proofs.Passed.{fail-refused}
 use Rattle.verdicts.specs.declared.Verdict.TheVariants.{Fail}
-use Rattle.feeder.specs.TapLaws.{few-regulators}
-use Rattle.report.specs.ReportTaps.{reported-retapped}
+use Rattle.feeder.proofs.TapLaws.{few-regulators}
+use Rattle.report.proofs.ReportTaps.{reported-retapped}
 
 -- ---- 50 has no value
 report-up-to : {z : ℕ} (f : Feeder) (s : List ℕ) → UpTo z (report_of f s)

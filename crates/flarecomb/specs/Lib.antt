@@ -5,4 +5,3 @@ pub mod Values
 pub mod ReadingValues
 pub mod StudyValues
 pub mod CheckValues
-pub mod WordLaws

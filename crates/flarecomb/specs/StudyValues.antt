@@ -12,16 +12,16 @@ use Rattle.flarecomb.specs.ReadingValues.{reading-up-to}
 use Rattle.flarecomb.specs.Values.{UpTo}
 use Rattle.iteration.specs.Ladder.{solution}
 use Rattle.equations.specs.Equations.{currents, voltages}
-use Rattle.feeder.specs.FeederLaws.{sound}
-use Rattle.feeder.specs.TapLaws.{sound-taps}
+use Rattle.feeder.proofs.FeederLaws.{sound}
+use Rattle.feeder.proofs.TapLaws.{sound-taps}
 use Rattle.ladder.specs.Stages.{fitted-is, fitted_from, fitted_with, text_of}
 use Rattle.ladder.specs.Study.{Report, fitted, report, study_of}
-use Rattle.ladder.specs.StudyLaws.{refused-from, study-good}
+use Rattle.ladder.proofs.StudyLaws.{refused-from, study-good}
 use Rattle.ladder.specs.declared.Study.TheVariants.{NoReport, Written}
 use Rattle.pair.specs.SolutionSizes.{ended-writable}
-use Rattle.report.specs.RoundTrip.{report-short}
+use Rattle.report.proofs.RoundTrip.{report-short}
 use Rattle.rounds.specs.Rounds.{Regulated, regulated}
-use Rattle.rounds.specs.RoundsLaws.{regulated-end, regulated-only}
+use Rattle.rounds.proofs.RoundsLaws.{regulated-end, regulated-only}
 
 -- 30 to 34: the number of the sweep, at most the limit; 35: 32
 regulated-up-to : {n : ℕ} (f : Feeder) → f.limit ≤ n → 32 ≤ n → UpTo n (regulated f)

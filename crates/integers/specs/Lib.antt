@@ -7,10 +7,7 @@ pub mod Lists
 pub mod Bools
 pub mod Whole
 pub mod Ring
-pub mod RoundingLaws
-pub mod Near
 pub mod RootLaws
-pub mod DigitsLaws
 pub mod RootSteps
 pub mod PairLaws
 pub mod ListLaws

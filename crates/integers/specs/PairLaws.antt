@@ -7,7 +7,6 @@ use Rattle.integers.specs.declared.Pair.{Pair}
 use Rattle.integers.specs.Pairs.{0c, ◌+c◌, ◌-c◌, ◌·c◌, ◌·*◌, scaled, rnd_pair, square, inside, within, close, same}
 use Rattle.integers.specs.Bools.{both, joined}
 use Rattle.integers.specs.Whole.{abs-add, abs-sub, abs-mul, abs-parts, add_parts, pos-neg, neg-neg, parts-eq}
-use Rattle.integers.specs.RoundingLaws.{abs-rnd, near_le, near-bound}
 
 pub pair_eq : {x y : Pair} → x.re ≡ y.re → x.im ≡ y.im → x ≡ y
 pair_eq p q = λ i. record { re = p i; im = q i }
@@ -83,24 +82,6 @@ within-scaled k {x} l h =
     record {
       re = omega (arith, abs-mul k x.re, mul-le-mul l h.re);
       im = omega (arith, abs-mul k x.im, mul-le-mul l h.im);
-    }
-
--- rounding makes nothing larger
-pub within-rnd : {m d : ℕ} {x : Pair} → 0 < d → Within m x → Within m (rnd_pair x d)
-unfolding rnd_pair
-within-rnd {d = d} {x = x} p h =
-    record {
-      re = omega (arith, abs-rnd x.re d, near_le (nat_abs x.re) d p);
-      im = omega (arith, abs-rnd x.im d, near_le (nat_abs x.im) d p);
-    }
-
--- what is at most d times m is at most m when it is divided by d
-pub within-div : {m d : ℕ} {x : Pair} → 0 < d → Within (m * d) x → Within m (rnd_pair x d)
-unfolding rnd_pair
-within-div {m} {d} {x} p h =
-    record {
-      re = omega (arith, abs-rnd x.re d, near-bound (nat_abs x.re) d m p (omega arith));
-      im = omega (arith, abs-rnd x.im d, near-bound (nat_abs x.im) d m p (omega arith));
     }
 
 pub square-bound : {m : ℕ} {x : Pair} → Within m x → square x ≤ 2 * (m * m)

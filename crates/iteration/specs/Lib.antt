@@ -1,4 +1,2 @@
 pub mod Ladder
-pub mod LadderLaws
 pub mod Runs
-pub mod RunLaws

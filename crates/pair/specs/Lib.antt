@@ -3,4 +3,3 @@ pub mod Pair
 -- Laws
 pub mod SolutionSizes
 pub mod PairHolds
-pub mod Calls

@@ -15,13 +15,13 @@ use Rattle.answers.specs.declared.Found.TheVariants.{Nothing}
 use Rattle.equations.specs.Equations.{at, currents, far_voltage, voltages, zero3}
 use Rattle.equations.specs.Meets.{voltages-meet, voltages-source}
 use Rattle.equations.specs.ThreeLaws.{Close3, at-masked}
-use Rattle.equations.specs.TapMoves.{rests-by}
+use Rattle.equations.proofs.TapMoves.{rests-by}
 use Rattle.equations.specs.Taps.{at_rest, rests_at, same_taps}
 use Rattle.feeder.specs.Feeder.{Feeder, branch_at, has, level_of, parent, phases_of, reading, regulates, regulators, row_count, rows_of, tap_at, taps_on}
-use Rattle.feeder.specs.FeederLaws.{sound}
-use Rattle.feeder.specs.RowFacts.{Formed}
+use Rattle.feeder.proofs.FeederLaws.{sound}
+use Rattle.feeder.proofs.RowFacts.{Formed}
 use Rattle.feeder.specs.RowLaws.{none_found, none-nodes, none_or, true-each}
-use Rattle.feeder.specs.TapLaws.{all-chosen, sound-taps}
+use Rattle.feeder.proofs.TapLaws.{all-chosen, sound-taps}
 use Rattle.feeder.specs.declared.Phase.{Phase}
 use Rattle.feeder.specs.declared.Phase.TheVariants.{A, B, C}
 use Rattle.feeder.specs.declared.Taps.{Taps}
@@ -32,19 +32,19 @@ use Rattle.integers.specs.PairLaws.{Close}
 use Rattle.integers.specs.Pairs.{0c, inside}
 use Rattle.integers.specs.declared.Pair.{Pair}
 use Rattle.iteration.specs.Ladder.{Solution}
-use Rattle.iteration.specs.LadderLaws.{Solved, settled-close, solved}
+use Rattle.iteration.proofs.LadderLaws.{Solved, settled-close, solved}
 use Rattle.ladder.specs.Study.{Report, report}
 use Rattle.pair.specs.Pair.{PairLaw}
 use Rattle.pair.specs.SolutionSizes.{ended-formed, ended-writable}
 use Rattle.report.specs.Report.{Reported, no_row, report_text, reported_currents, reported_voltages, tap_row, with_reported}
-use Rattle.report.specs.RoundTrip.{Writable, branch-count, branch-row, node-row, report-read, report-short, report_rows, reported-current, reported-feeder, reported-loss, reported-totals, reported-voltages, row_of_branch, row_of_node}
+use Rattle.report.proofs.RoundTrip.{Writable, branch-count, branch-row, node-row, report-read, report-short, report_rows, reported-current, reported-feeder, reported-loss, reported-totals, reported-voltages, row_of_branch, row_of_node}
 use Rattle.compare.specs.Differences.{name_at_node, name_differs, stays_at, tap_differs}
 use Rattle.verdicts.specs.Check.{check_of}
-use Rattle.verdicts.specs.Passed.{Passed, found-passes}
-use Rattle.verdicts.specs.Tests.{TotalsSame, meets52, meets53, meets54, meets55}
+use Rattle.verdicts.proofs.Passed.{Passed, found-passes}
+use Rattle.verdicts.proofs.Tests.{TotalsSame, meets52, meets53, meets54, meets55}
 use Rattle.verdicts.specs.declared.Verdict.TheVariants.{Pass}
 use Rattle.rounds.specs.Rounds.{Regulated, regulated}
-use Rattle.rounds.specs.RoundsLaws.{Ended, regulated-end}
+use Rattle.rounds.proofs.RoundsLaws.{Ended, regulated-end}
 use Rattle.text.specs.Lines.{Row, word_of}
 use Rattle.integers.specs.Lists.{All}
 

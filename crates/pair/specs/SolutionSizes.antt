@@ -12,10 +12,10 @@ use Rattle.equations.specs.Meets.{currents-meet, taken_at, voltages-source}
 use Rattle.equations.specs.Sizes.{Within3, beyond-false, beyond3-false, spread-within, within3-plus, within3-zero}
 use Rattle.equations.specs.SumSizes.{csum-within, sum3-within}
 use Rattle.feeder.specs.Feeder.{Feeder, branch_at, parent, phase_signs, reading, row_count, rows_of}
-use Rattle.feeder.specs.FeederLaws.{sound}
-use Rattle.feeder.specs.ProperNames.{node-proper}
-use Rattle.feeder.specs.RowFacts.{Formed, formed}
-use Rattle.feeder.specs.TapLaws.{phases-same, retapped-formed}
+use Rattle.feeder.proofs.FeederLaws.{sound}
+use Rattle.feeder.proofs.ProperNames.{node-proper}
+use Rattle.feeder.proofs.RowFacts.{Formed, formed}
+use Rattle.feeder.proofs.TapLaws.{phases-same, retapped-formed}
 use Rattle.feeder.specs.declared.Three.{Three}
 use Rattle.integers.specs.Bools.{clash}
 use Rattle.integers.specs.ListLaws.{all-count, all_map, all-map2, any_false, length-tab, tab-all}
@@ -23,11 +23,11 @@ use Rattle.integers.specs.Lists.{All, any, count}
 use Rattle.integers.specs.PairLaws.{Within, within_more}
 use Rattle.integers.specs.Pairs.{◌·*◌, scaled}
 use Rattle.iteration.specs.Ladder.{Solution}
-use Rattle.iteration.specs.LadderLaws.{Solved, solved}
-use Rattle.report.specs.RoundTrip.{Writable}
+use Rattle.iteration.proofs.LadderLaws.{Solved, solved}
+use Rattle.report.proofs.RoundTrip.{Writable}
 use Rattle.text.specs.Text.{Proper}
 use Rattle.rounds.specs.Rounds.{Regulated}
-use Rattle.rounds.specs.RoundsLaws.{Ended, TapsWithin}
+use Rattle.rounds.proofs.RoundsLaws.{Ended, TapsWithin}
 
 -- what 32 and 33 say of each row
 row-false : (f : ℕ → Bool) (n : ℕ) → any f (count 1 n) ≡ false → (j : ℕ) → j < n → f (suc j) ≡ false

@@ -9,7 +9,7 @@ use Rattle.std.proofs.Math.ListN.{get_or}
 use Rattle.equations.specs.Downward.{downward-node}
 use Rattle.equations.specs.Equations.{downward, far_voltage, voltages, zero3}
 use Rattle.feeder.specs.Feeder.{Feeder, above, branch_at, no_branch, row_count, rows_of}
-use Rattle.feeder.specs.FeederLaws.{Reached}
+use Rattle.feeder.proofs.FeederLaws.{Reached}
 use Rattle.feeder.specs.Network.{Held, kept}
 use Rattle.feeder.specs.NetworkLaws.{get_or_kept, length-kept}
 use Rattle.feeder.specs.declared.Branch.{Branch}

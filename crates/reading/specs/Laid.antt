@@ -10,7 +10,7 @@ use Rattle.arrays.specs.ArrayLaws.{branches-numbered, loads-numbered}
 use Rattle.arrays.specs.Arrays.{branches_of, loads_of, network_of, numbered_branches, numbered_loads}
 use Rattle.arrays.specs.declared.Settings.{Settings}
 use Rattle.feeder.specs.Feeder.{feeder_of, load_of, nodes_of, reading, too_long}
-use Rattle.feeder.specs.FeederLaws.{row-count}
+use Rattle.feeder.proofs.FeederLaws.{row-count}
 use Rattle.feeder.specs.Layout.{Rows, layout}
 use Rattle.feeder.specs.Network.{Held}
 use Rattle.feeder.specs.declared.Network.{Network}

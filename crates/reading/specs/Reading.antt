@@ -7,7 +7,7 @@ use Rattle.arrays.specs.Arrays.{branch_rows, from_names, load_names, load_rows, 
 use Rattle.arrays.specs.declared.Settings.{Settings}
 use Rattle.feeder.specs.Faults.{PointsIntoFeeder}
 use Rattle.feeder.specs.Feeder.{Feeder, no_branch, nodes_of, reading, three_at}
-use Rattle.feeder.specs.FeederPoints.{points-into-feeder, reading-short}
+use Rattle.feeder.proofs.FeederPoints.{points-into-feeder, reading-short}
 use Rattle.feeder.specs.Layout.{Rows}
 use Rattle.feeder.specs.Network.{Held, kept, no_load}
 use Rattle.feeder.specs.Pointing.{turn}

@@ -12,10 +12,10 @@ use Rattle.feeder.specs.Feeder.{Feeder, reading, too_long}
 use Rattle.report.specs.Report.{Reported, report_of, reported_voltages, with_reported}
 use Rattle.verdicts.specs.Check.{CheckTold, check_of, checked, compared, verdict_of}
 use Rattle.verdicts.specs.CheckChain.{from30, from53, from56}
-use Rattle.verdicts.specs.Demand.{demand3}
-use Rattle.verdicts.specs.Passed.{check-told}
+use Rattle.verdicts.proofs.Demand.{demand3}
+use Rattle.verdicts.proofs.Passed.{check-told}
 use Rattle.verdicts.specs.ReportFaults.{CheckPoints, worked_currents}
-use Rattle.verdicts.specs.ReportPoints.{check-points}
+use Rattle.verdicts.proofs.ReportPoints.{check-points}
 use Rattle.verdicts.specs.declared.Verdict.{Verdict}
 use Rattle.verdicts.specs.declared.Verdict.TheVariants.{Fail, Pass}
 use Rattle.report_reader.specs.Read.{ReportHeld, ReportIs, ReportRead}

@@ -23,11 +23,11 @@ use Rattle.report.specs.Report.{Reported, reported_taps, reported_voltages, taps
 use Rattle.compare.specs.Differences.{source_differs}
 use Rattle.verdicts.specs.Check.{below_off, off, voltage_off}
 use Rattle.verdicts.specs.ReportFaults.{worked_currents}
-use Rattle.verdicts.specs.Tests.{same3-true}
+use Rattle.verdicts.proofs.Tests.{same3-true}
 use Rattle.report_reader.specs.Read.{ReportHeld, ReportRead, TapsHeld}
 use Rattle.sweeps.specs.Sweeps.{Known, WorkedIs, work_of}
 use Rattle.sweeps.specs.declared.Worked.{Worked}
-use Rattle.feeder.specs.TapLaws.{Retapped, retapped-self, retapped-with}
+use Rattle.feeder.proofs.TapLaws.{Retapped, retapped-self, retapped-with}
 use Rattle.feeder.specs.declared.Branch.{Branch}
 use Rattle.feeder.specs.declared.Phase.{Phase}
 use Rattle.equations.specs.Limits.{DeviceOk}

@@ -3,4 +3,3 @@ pub mod TableLaws
 pub mod Left
 pub mod Writing
 pub mod ReportIs
-pub mod ReportShort

@@ -8,11 +8,11 @@ use Rattle.branch_taps.specs.Setting.{Setting, array_at, set-array, setting-next
 use Rattle.equations.specs.Equations.{zero3}
 use Rattle.equations.specs.Fit.{Fit}
 use Rattle.equations.specs.Limits.{DeviceOk, TapsOk}
-use Rattle.equations.specs.TapMoves.{moved_at}
+use Rattle.equations.proofs.TapMoves.{moved_at}
 use Rattle.equations.specs.Taps.{at_rest, moved, moved_on, moved_taps, rests_at, same_taps}
 use Rattle.feeder.specs.Feeder.{Feeder, branch_at, no_branch, no_taps, regulates, row_count, rows_of, tap_at, tapped, tapped_branch, taps_on, with_taps}
 use Rattle.feeder.specs.Network.{branch_array}
-use Rattle.feeder.specs.TapLaws.{branch-tapped}
+use Rattle.feeder.proofs.TapLaws.{branch-tapped}
 use Rattle.feeder.specs.declared.Branch.{Branch}
 use Rattle.feeder.specs.declared.Device.{Device}
 use Rattle.feeder.specs.declared.Device.TheVariants.{Line, Regulator, Transformer}
@@ -23,7 +23,7 @@ use Rattle.feeder.specs.declared.Three.{Three}
 use Rattle.integers.specs.ListLaws.{true-count}
 use Rattle.integers.specs.Lists.{all, count, tab}
 use Rattle.integers.specs.Pairs.{inside}
-use Rattle.iteration.specs.RunLaws.{one-moved}
+use Rattle.iteration.proofs.RunLaws.{one-moved}
 use Rattle.passes.specs.Same.{Same}
 use Rattle.taps.specs.MovedTaps.{moved_ok}
 

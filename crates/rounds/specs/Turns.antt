@@ -1,34 +1,13 @@
--- What the rounds come to over a feeder in memory: each round is one step of the definition. Assumes nothing.
-use Rattle.std.specs.Prelude.{Bool, cond, false, not, true, List, ◌≡◌, refl, ◌+◌, ◌<◌, suc, zero, ℕ, get_or}
-use Rattle.std.proofs.Common.{◌∙◌, ap, sym, arith}
-use Rattle.answers.specs.Answers.{Outcome, ◌>>=◌, good, refused}
-use Rattle.answers.specs.declared.Refusal.{Refusal}
-use Rattle.answers.specs.declared.Refusal.TheVariants.{TapsMoving}
-use Rattle.equations.specs.Equations.{beyond3, voltage_beyond, zero3}
-use Rattle.equations.specs.Sizes.{Within3, beyond3-false}
-use Rattle.equations.specs.TapMoves.{rest-same}
-use Rattle.equations.specs.Taps.{at_rest, moved}
-use Rattle.feeder.specs.Feeder.{Feeder, row_count, with_taps}
-use Rattle.feeder.specs.Network.{Held, branch_array}
-use Rattle.feeder.specs.TapLaws.{retapped-self, retapped-with}
-use Rattle.feeder.specs.declared.Branch.{Branch}
+-- What the arrays hold where the rounds over a feeder in memory have ended. Assumes nothing.
+use Rattle.std.specs.Prelude.{List, ◌≡◌}
+use Rattle.answers.specs.Answers.{Outcome, good, refused}
+use Rattle.feeder.specs.Network.{Held}
 use Rattle.feeder.specs.declared.Network.{Network}
 use Rattle.feeder.specs.declared.Three.{Three}
-use Rattle.integers.specs.ListLaws.{any_false, tab-all}
-use Rattle.integers.specs.Lists.{any, count}
-use Rattle.iteration.specs.Ladder.{Solution, solution}
-use Rattle.iteration.specs.LadderLaws.{solved}
-use Rattle.iteration.specs.RunLaws.{same-array}
-use Rattle.iteration.specs.Runs.{GoodRun, SolvedAs, Solving-is}
+use Rattle.iteration.specs.Runs.{SolvedAs}
 use Rattle.iteration.specs.declared.Run.{Run}
-use Rattle.iteration.specs.declared.Solving.{Solving}
-use Rattle.iteration.specs.declared.Solving.TheVariants.{Solved, Unsolved}
-use Rattle.passes.specs.Same.{Same}
-use Rattle.rounds.specs.Moving.{moved_same, moved-small, rest_at}
-use Rattle.rounds.specs.Rounds.{Regulated, regulated, rounds}
-use Rattle.rounds.specs.RoundsLaws.{rounds-step}
-use Rattle.sweeps.specs.Retapped.{retapped-held, retapped-known, with_branches}
-use Rattle.sweeps.specs.Sweeps.{Known}
+use Rattle.iteration.specs.declared.Solving.TheVariants.{Unsolved}
+use Rattle.rounds.specs.Rounds.{Regulated}
 
 -- the arrays then hold the feeder with the taps of the last round, and its solution
 abbrev pub Regulating-is : Outcome Regulated → Run → Network → List Three → List Three → Type 0
@@ -37,110 +16,3 @@ Regulating-is (refused x) r n v i = r.solving ≡ Unsolved x
 
 pub record RegulatedAs (o : Outcome Regulated) (r : Run) (n : Network) (v i : List Three) : Type 0 where
   pub regulating-is : Regulating-is o r n v i
-
--- with `left` rounds to go the arrays hold a feeder whose rounds are those of f
-pub record Reached (f : Feeder) (left : ℕ) (n : Network) : Type 0 where
-  pub feeder : Feeder
-  pub held : Held feeder n
-  pub same : regulated f ≡ rounds left feeder
-
-pub reached-start : (f : Feeder) (n : Network) → Held f n → Reached f 32 n
-unfolding regulated
-reached-start f n h = record { feeder = f; held = h; same = refl }
-
-pub reached-last : (f : Feeder) (n : Network) → Reached f 0 n → (r : Run) (v i : List Three) → r.solving ≡ Unsolved (TapsMoving 32) → RegulatedAs (regulated f) r n v i
-unfolding rounds
-reached-last f n w r v i e = record { regulating-is = rw w.same e }
-
--- ---- a run that is solved
-pub record Found (f : Feeder) (r : Run) (v i : List Three) : Type 0 where
-  pub value : Solution
-  pub came : solution f ≡ good value
-  pub sweeps : r.solving ≡ Solved value.sweeps
-  pub run : GoodRun f value v i r.drawn
-
-pub found : (f : Feeder) (r : Run) (v i : List Three) (q : ℕ) → SolvedAs f (solution f) r v i → r.solving ≡ Solved q → Found f r v i
-found f r v i q s e = go (solution f) refl s.solving-is
-  where
-    go : (o : Outcome Solution) → solution f ≡ o → Solving-is f o r v i → Found f r v i
-    go (good x) z h = record { value = x; came = z; sweeps = h.0; run = h.1 }
-    go (refused y) z h = let b : ◌≡◌ {A = Solving} (Unsolved y) (Solved q) = sym h ∙ e in let z : ◌≡◌ {A = ℕ} 0 1 = cc in absurd (omega arith)
-
-row-false : (f : ℕ → Bool) (n : ℕ) → any f (count 1 n) ≡ false → (j : ℕ) → j < n → f (suc j) ≡ false
-unfolding count
-row-false f n e j q = let z : 1 + j ≡ suc j = omega arith in rw z at (tab-all (λ k. f k ≡ false) (λ i. i) 1 n (any_false f (count 1 n) e) j q)
-
--- its voltages are within the limit: 33
-pub found_within : (f : Feeder) (r : Run) (v i : List Three) → Found f r v i → (k : ℕ) → 0 < k → k < row_count f + 1 → Within3 2000000 (get_or v k zero3)
-unfolding voltage_beyond
-found_within f r v i w zero p q = absurd (omega arith)
-found_within f r v i w (suc k) p q =
-    let x = w.value in
-    rw ((same-array v x.voltages w.run.voltages-are w.run.few-voltages).place (suc k))
-    (beyond3-false (row-false (λ k. beyond3 (get_or x.voltages k zero3)) (row_count f) (solved f x w.came).t33 k (omega arith)))
-
--- ---- one round
-module _ (f : Feeder) (left : ℕ) (n : Network) (w : Reached f (suc left) n) (r : Run) (v i : List Three) (s : SolvedAs w.feeder (solution w.feeder) r v i) where
-  abbrev g : Feeder
-  g = w.feeder
-
-  abbrev next : Solution → Outcome Regulated
-  next x = cond (at_rest g x.voltages x.currents) (good (record { feeder = g; solution = x })) (rounds left (with_taps (moved g x.voltages x.currents) g))
-
-  step : regulated f ≡ (solution g >>= next)
-  step = w.same ∙ rounds-step left g
-
-  pub round-stops : (x : Refusal) → r.solving ≡ Unsolved x → (m : Network) (u j : List Three) → RegulatedAs (regulated f) r m u j
-  round-stops x e m u j = go (solution g) refl s.solving-is
-    where
-      go : (o : Outcome Solution) → solution g ≡ o → Solving-is g o r v i → RegulatedAs (regulated f) r m u j
-      go (good y) z h = let b : ◌≡◌ {A = Solving} (Solved y.sweeps) (Unsolved x) = sym h.0 ∙ e in let z : ◌≡◌ {A = ℕ} 0 1 = cc in absurd (omega arith)
-      go (refused y) z h = record { regulating-is = rw (step ∙ ap (λ (o : Outcome Solution). o >>= next) z) h }
-
-  module _ (q : ℕ) (e : r.solving ≡ Solved q) (moving : Bool) (bs : List Branch) (m : moving ≡ not (at_rest g v i)) (b : bs ≡ branch_array (with_taps (moved g v i) g)) where
-    y : Found g r v i
-    y = found g r v i q s e
-
-    abbrev x : Solution
-    x = y.value
-
-    sv : Same v x.voltages
-    sv = same-array v x.voltages y.run.voltages-are y.run.few-voltages
-
-    si : Same i x.currents
-    si = same-array i x.currents y.run.currents-are y.run.few-currents
-
-    here : regulated f ≡ next x
-    here = step ∙ ap (λ (o : Outcome Solution). o >>= next) y.came
-
-    turned : (c d : Bool) → c ≡ not d → d ≡ not c
-    turned true true e = e
-    turned true false e = refl
-    turned false true e = refl
-    turned false false e = e
-
-    rest : (c : Bool) → moving ≡ c → at_rest g x.voltages x.currents ≡ not c
-    rest c z = sym (rest_at g sv si) ∙ turned moving (at_rest g v i) m ∙ ap not z
-
-    pub round-rests : moving ≡ false → RegulatedAs (regulated f) r (with_branches bs n) v i
-    round-rests z =
-        let same : with_taps (moved g v i) g ≡ g = rest-same g v i (turned moving (at_rest g v i) m ∙ ap not z) in
-        let o : regulated f ≡ good (record { feeder = g; solution = x }) = here ∙ ap (λ (c : Bool). cond c (good (record { feeder = g; solution = x })) (rounds left (with_taps (moved g x.voltages x.currents) g))) (rest false z) in
-        let a : SolvedAs g (good x) r v i = record { solving-is = (y.sweeps, y.run) } in
-        record { regulating-is = rw o (retapped-held g g n bs (retapped-self g) (b ∙ ap branch_array same) w.held, a) }
-
-    pub round-moves : moving ≡ true → Reached f left (with_branches bs n)
-    round-moves z =
-        let t = moved_same g sv si in
-        let o : regulated f ≡ rounds left (with_taps (moved g x.voltages x.currents) g) = here ∙ ap (λ (c : Bool). cond c (good (record { feeder = g; solution = x })) (rounds left (with_taps (moved g x.voltages x.currents) g))) (rest true z) in
-        record {
-          feeder = with_taps (moved g v i) g;
-          held = retapped-held g (with_taps (moved g v i) g) n bs (retapped-with g g (moved g v i) (retapped-self g)) b w.held;
-          same = o ∙ sym (ap (λ (l : List _). rounds left (with_taps l g)) t);
-        }
-
--- arrays with moved taps are known
-pub known-moved : (n : Network) (w : Known n) (v i : List Three) (bs : List Branch) → bs ≡ branch_array (with_taps (moved w.feeder v i) w.feeder) → Known (with_branches bs n)
-known-moved n w v i bs e =
-    let g = w.feeder in
-    retapped-known n w (with_taps (moved g v i) g) bs (retapped-with g g (moved g v i) (retapped-self g)) (moved-small g v i w.fit) e

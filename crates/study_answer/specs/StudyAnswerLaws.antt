@@ -2,11 +2,11 @@
 use Rattle.std.specs.Prelude.{List, ◌≡◌, refl, ◌≤◌, ℕ, length}
 use Rattle.std.proofs.Common.{◌∙◌, ap, sym, arith}
 use Rattle.answer_text.specs.AnswerText.{PutAtStart, refused_line, text_told, whole_or_nothing}
-use Rattle.answer_text.specs.AnswerTextLaws.{put_all, refused-50, whole_room}
+use Rattle.answer_text.proofs.AnswerTextLaws.{put_all, refused-50, whole_room}
 use Rattle.answers.specs.Answers.{Outcome, good, number_of, refused, value_of}
 use Rattle.answers.specs.declared.Refusal.{Refusal}
 use Rattle.ladder.specs.Study.{Report, answered, buffer_of, filled, fitted, study_of}
-use Rattle.ladder.specs.StudyLaws.{study-good}
+use Rattle.ladder.proofs.StudyLaws.{study-good}
 use Rattle.ladder.specs.declared.Study.TheVariants.{NoReport, Written}
 use Rattle.study_answer.specs.StudyAnswer.{study_text, text_in}
 

@@ -4,7 +4,7 @@ use Rattle.std.proofs.Common.{◌∙◌, ap, subst, sym}
 use Rattle.equations.specs.Fit.{retapped-limits}
 use Rattle.feeder.specs.Feeder.{Feeder, branch_at, row_count, tap_at, taps_on}
 use Rattle.feeder.specs.Network.{Held, branch_array, kept, no_load}
-use Rattle.feeder.specs.TapLaws.{Retapped, parent-same}
+use Rattle.feeder.proofs.TapLaws.{Retapped, parent-same}
 use Rattle.feeder.specs.declared.Branch.{Branch}
 use Rattle.feeder.specs.declared.Load.{Load}
 use Rattle.feeder.specs.declared.Network.{Network}

@@ -13,7 +13,7 @@ use Rattle.arrays.specs.Arrays.{is_on}
 use Rattle.feeder.specs.Feeder.{Feeder, branch_at, level_of, no_branch, no_taps, place_of, regulates, regulators, row_count, rows_of, taps_on}
 use Rattle.feeder.specs.Network.{branch_array, kept}
 use Rattle.feeder.specs.NetworkLaws.{get_or_kept, kept-below}
-use Rattle.feeder.specs.TapLaws.{all-chosen, few-regulators}
+use Rattle.feeder.proofs.TapLaws.{all-chosen, few-regulators}
 use Rattle.feeder.specs.declared.Branch.{Branch}
 use Rattle.feeder.specs.declared.Phases.{Phases}
 use Rattle.feeder.specs.declared.Taps.{Taps}

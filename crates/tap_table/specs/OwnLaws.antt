@@ -12,7 +12,7 @@ use Rattle.arrays.specs.Arrays.{is_on}
 use Rattle.feeder.specs.Feeder.{level_of, no_branch, no_taps, taps_on}
 use Rattle.feeder.specs.Network.{kept}
 use Rattle.feeder.specs.NetworkLaws.{kept_next}
-use Rattle.feeder.specs.TapLaws.{length-chosen}
+use Rattle.feeder.proofs.TapLaws.{length-chosen}
 use Rattle.feeder.specs.declared.Branch.{Branch}
 use Rattle.feeder.specs.declared.Taps.{Taps}
 use Rattle.integers.specs.ListLaws.{length-tab}

@@ -3,7 +3,7 @@ use Rattle.std.specs.Prelude.{Bool, cond, false, true, ◌≡◌, ◌≤◌, nat
 use Rattle.std.proofs.Common.{ap}
 use Rattle.equations.specs.Equations.{at}
 use Rattle.equations.specs.Limits.{TapsOk}
-use Rattle.equations.specs.TapMoves.{moved-in}
+use Rattle.equations.proofs.TapMoves.{moved-in}
 use Rattle.equations.specs.Taps.{moved_on, moved_tap, moved_taps, relay_voltage}
 use Rattle.feeder.specs.Feeder.{has, no_taps, tap_at}
 use Rattle.feeder.specs.declared.Branch.{Branch}

@@ -1,6 +1,5 @@
 pub mod Opened
 pub mod Example
-pub mod Values
 pub mod Roots
 pub mod Numbers
 pub mod Refusals

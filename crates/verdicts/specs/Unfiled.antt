@@ -13,15 +13,15 @@ use Rattle.compare.specs.Differences.{first_tap_row, name_at_node, stays_at, tap
 use Rattle.equations.specs.Taps.{same_taps}
 use Rattle.feeder.specs.Feeder.{Feeder, branch_at, level_of, reading, regulates, regulators, row_count, rows_of, tap_at, taps_on, too_long}
 use Rattle.feeder.specs.RowLaws.{none_found, true-each}
-use Rattle.feeder.specs.TapLaws.{all-chosen, retapped-self}
+use Rattle.feeder.proofs.TapLaws.{all-chosen, retapped-self}
 use Rattle.feeder.specs.declared.Taps.{Taps}
 use Rattle.integers.specs.ListLaws.{all-at, all-count, any_false, get_or_map, tab-all}
 use Rattle.integers.specs.Lists.{All, any, count}
 use Rattle.integers.specs.Pairs.{inside}
 use Rattle.report.specs.Report.{Reported, no_row, report_of, tap_row}
-use Rattle.report.specs.ReportTaps.{rows-feeder}
+use Rattle.report.proofs.ReportTaps.{rows-feeder}
 use Rattle.verdicts.specs.Check.{checked, compared}
-use Rattle.report.specs.ReportRows.{rows-match}
+use Rattle.report.proofs.ReportRows.{rows-match}
 use Rattle.text.specs.Lines.{word_of}
 
 module _ (f : Feeder) (r : Reported) (own : r.taps ≡ map (tap_row f) (regulators f)) (fixed : any (λ k. not (inside 0 (level_of (branch_at f k).device))) (rows_of f) ≡ false) where

@@ -1,6 +1,6 @@
 -- `answer_text::line_width` meets its contract: the digits of both numbers, and ten bytes. Assumes nothing.
 use native.Mathlib.Omega.{arith}
-use Rattle.answer_text.specs.AnswerTextLaws.{refused-length}
+use Rattle.answer_text.proofs.AnswerTextLaws.{refused-length}
 use Rattle.text.specs.TextLaws.{digits-fit}
 use Rattle.answer_text.proofs.line_width.Goals as goal
 

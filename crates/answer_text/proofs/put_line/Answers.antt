@@ -4,7 +4,7 @@ use mathlib.Core.Path.{◌≡◌}
 use Prim.Native.Nat.{◌+◌, ◌≤◌}
 use native.Mathlib.Omega.{arith}
 use lib.ListN.{length, length-append}
-use Rattle.answer_text.specs.AnswerTextLaws.{refused-digits, refused-length}
+use Rattle.answer_text.proofs.AnswerTextLaws.{refused-digits, refused-length}
 use Rattle.text.specs.Promises.{Written}
 use Rattle.text.specs.Stores.{written_behind, written-length}
 use Rattle.text.specs.Text.{bytes, digits}

@@ -2,7 +2,7 @@
 use mathlib.Core.Path.{◌≡◌, ap₂, sym}
 use native.Mathlib.Omega.{arith}
 use Rattle.answer_text.specs.AnswerText.{refused_line}
-use Rattle.answer_text.specs.AnswerTextLaws.{put-nothing, put_written}
+use Rattle.answer_text.proofs.AnswerTextLaws.{put-nothing, put_written}
 use Rattle.answers.specs.Answers.{number_of, value_of}
 use Rattle.answer_text.proofs.put_refusal.Goals as goal
 use Rattle.answer_text.proofs.put_refusal.Goals.{After-line_width}

@@ -1,7 +1,7 @@
 -- `flarecomb_check` meets its contract: the laws of the definitions bound the value of a refusal, and no refusal has the word 0. Assumes nothing.
 use Rattle.std.proofs.Common.{◌∙◌, ◌≡◌, ap, sym, arith}
 use Rattle.flarecomb.specs.CheckValues.{check-value}
-use Rattle.flarecomb.specs.WordLaws.{check-word, zero-passes}
+use Rattle.flarecomb.proofs.WordLaws.{check-word, zero-passes}
 use Rattle.flarecomb.specs.Words.{word_of_check}
 use Rattle.verdicts.specs.Check.{check_of}
 use Rattle.verdicts.specs.declared.Verdict.TheVariants.{Fail}

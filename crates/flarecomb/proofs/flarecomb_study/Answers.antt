@@ -1,7 +1,7 @@
 -- `flarecomb_study` meets its contract: the laws of the definitions bound the length of a report and the value of a refusal. Assumes nothing.
 use Rattle.std.proofs.Common.{◌∙◌, ◌≡◌, ap, sym, length, arith}
 use Rattle.flarecomb.specs.StudyValues.{study-length, study-sweeps, study-value}
-use Rattle.flarecomb.specs.WordLaws.{study-word}
+use Rattle.flarecomb.proofs.WordLaws.{study-word}
 use Rattle.flarecomb.specs.Words.{word_of_study}
 use Rattle.ladder.specs.Study.{study_of}
 use Rattle.ladder.specs.declared.Study.TheVariants.{NoReport, Written}

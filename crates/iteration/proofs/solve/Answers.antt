@@ -7,7 +7,7 @@ use Rattle.equations.specs.Equations.{zero3}
 use Rattle.equations.specs.Sizes.{within3-zero}
 use Rattle.feeder.specs.Feeder.{Feeder}
 use Rattle.feeder.specs.Network.{Held}
-use Rattle.iteration.specs.RunLaws.{here-last, here-next, here-settled, here-start, here-stopped, no_start, room-made, same-zeros, stopped-start}
+use Rattle.iteration.proofs.RunLaws.{here-last, here-next, here-settled, here-start, here-stopped, no_start, room-made, same-zeros, stopped-start}
 use Rattle.iteration.specs.declared.Solving.TheVariants.{Unsolved}
 use Rattle.passes.specs.Same.{Same}
 use Rattle.std.specs.Prelude.{replicate}

@@ -4,7 +4,7 @@ use Rattle.arrays.specs.Arrays.{Spare, network_of, threes_of}
 use Rattle.feeder.specs.Feeder.{Feeder}
 use Rattle.feeder.specs.Network.{Held}
 use Rattle.iteration.specs.Runs.{Room}
-use Rattle.iteration.specs.RunLaws.{Here}
+use Rattle.iteration.proofs.RunLaws.{Here}
 use Rattle.iteration.proofs.solve.Given as goal
 
 abbrev pub invariant-loop-k : goal.invariant-loop-k

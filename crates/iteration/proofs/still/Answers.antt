@@ -11,7 +11,7 @@ use Rattle.integers.specs.Pairs.{close}
 use mathlib.Core.Path.{◌≡◌, ap₂, sym, ◌∙◌}
 use Prim.Native.Nat.{◌+◌}
 use Rattle.iteration.specs.Runs.{still_at}
-use Rattle.iteration.specs.RunLaws.{one-moved}
+use Rattle.iteration.proofs.RunLaws.{one-moved}
 use native.Mathlib.Omega.{arith}
 use Rattle.iteration.proofs.still.Goals as goal
 use Rattle.iteration.proofs.still.Goals.{After-close, At-loop-k}

@@ -5,7 +5,7 @@ use Rattle.equations.specs.Equations.{currents, voltages}
 use Rattle.feeder.specs.Feeder.{Feeder}
 use Rattle.feeder.specs.Network.{Held}
 use Rattle.iteration.specs.Ladder.{settled}
-use Rattle.iteration.specs.RunLaws.{same_next, settled_is, swept-again, swept-high, swept-settled}
+use Rattle.iteration.proofs.RunLaws.{same_next, settled_is, swept-again, swept-high, swept-settled}
 use Rattle.iteration.proofs.sweep_once.Goals as goal
 use Rattle.iteration.proofs.sweep_once.Goals.{After-still}
 

@@ -2,10 +2,10 @@
 use Rattle.std.proofs.Common.{List, ◌∙◌, ◌≡◌, refl, sym, ℕ, length}
 use Rattle.arrays.specs.Arrays.{network_of}
 use Rattle.feeder.specs.Feeder.{reading}
-use Rattle.ladder.specs.StageLaws.{study-whole, whole-read, whole-refused}
+use Rattle.ladder.proofs.StageLaws.{study-whole, whole-read, whole-refused}
 use Rattle.ladder.specs.Study.{StudyGood, StudyPoints, StudyTold, buffer_of, fitted, study_of}
-use Rattle.ladder.specs.StudyLaws.{study-good, study-told}
-use Rattle.ladder.specs.StudyPoints.{study-points}
+use Rattle.ladder.proofs.StudyLaws.{study-good, study-told}
+use Rattle.ladder.proofs.StudyPoints.{study-points}
 use Rattle.ladder.specs.declared.Study.{Study}
 use Rattle.ladder.specs.declared.Study.TheVariants.{Written}
 use Rattle.sweeps.specs.ReadKnown.{ReadKnown, read-good, read-refused}

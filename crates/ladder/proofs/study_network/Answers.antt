@@ -1,7 +1,7 @@
 -- `study_network` meets its contract: rounds that refuse are answered so, and what they come to is written. Assumes nothing.
 use Rattle.std.proofs.Common.{refl}
 use Rattle.arrays.specs.Arrays.{network_of, threes_of}
-use Rattle.ladder.specs.StageLaws.{from-refused, from-regulated, run-good, run-refused}
+use Rattle.ladder.proofs.StageLaws.{from-refused, from-regulated, run-good, run-refused}
 use Rattle.ladder.proofs.study_network.Goals as goal
 
 pub returns-in-Unsolved : goal.returns-in-Unsolved

@@ -10,7 +10,7 @@ use Rattle.report_writer.specs.ReportIs.{Shown}
 use Rattle.iteration.specs.Ladder.{Solution}
 use Rattle.iteration.specs.Runs.{GoodRun}
 use Rattle.ladder.specs.Stages.{text_of}
-use Rattle.ladder.specs.StageLaws.{shown, source_is, with-room, with-short}
+use Rattle.ladder.proofs.StageLaws.{shown, source_is, with-room, with-short}
 use Rattle.sweeps.specs.SweepsLaws.{in-arrays, ready}
 use Rattle.ladder.proofs.write_solution.Goals as goal
 use Rattle.ladder.proofs.write_solution.Goals.{After-power-source, After-report_width-need}

@@ -6,7 +6,7 @@ use native.Mathlib.Omega.{arith}
 use lib.IntN.{nat_abs}
 use Rattle.equations.specs.Equations.{acts_as}
 use Rattle.equations.specs.Limits.{square-most}
-use Rattle.equations.specs.LowVoltage.{acts-high, acts-low}
+use Rattle.equations.proofs.LowVoltage.{acts-high, acts-low}
 use Rattle.feeder.specs.declared.LoadKind.{LoadKind}
 use Rattle.integers.specs.Machine.{abs-read}
 use Rattle.loads.proofs.acts_as.Goals as goal

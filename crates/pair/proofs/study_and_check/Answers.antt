@@ -2,9 +2,9 @@
 use Rattle.std.proofs.Common.{List, ◌∙◌, ◌≡◌, sym, ℕ, ◌-◌, length, take, arith}
 use Rattle.answers.specs.declared.Refusal.{Refusal}
 use Rattle.ladder.specs.Study.{buffer_of, study_of}
-use Rattle.ladder.specs.StudyLaws.{study-good}
+use Rattle.ladder.proofs.StudyLaws.{study-good}
 use Rattle.ladder.specs.declared.Study.TheVariants.{Written}
-use Rattle.pair.specs.Calls.{written-passes}
+use Rattle.pair.proofs.Calls.{written-passes}
 use Rattle.verdicts.specs.Check.{check_of}
 use Rattle.verdicts.specs.declared.Verdict.{Verdict}
 use Rattle.verdicts.specs.declared.Verdict.TheVariants.{Fail}

@@ -4,7 +4,7 @@ use Rattle.answers.specs.declared.Refusal.TheVariants.{OutOfLimit}
 use Rattle.arrays.specs.declared.Settings.{Settings}
 use Rattle.feeder.specs.Feeder.{out_of_limit}
 use Rattle.feeder.specs.Layout.{layout}
-use Rattle.feeder.specs.RowFacts.{few-branches, few-loads}
+use Rattle.feeder.proofs.RowFacts.{few-branches, few-loads}
 use Rattle.reading.specs.Laid.{laid-rows, read-bad, read-laid, read-long}
 use Rattle.reading.specs.Reading.{into-refused, into-same}
 use Rattle.feeder.specs.Stages.{from11, from20}

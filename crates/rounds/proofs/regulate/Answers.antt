@@ -7,9 +7,10 @@ use Rattle.equations.specs.Taps.{at_rest, moved}
 use Rattle.feeder.specs.Feeder.{Feeder, no_branch, with_taps}
 use Rattle.feeder.specs.Network.{Held, branch_array}
 use Rattle.feeder.specs.NetworkLaws.{length-kept}
-use Rattle.iteration.specs.RunLaws.{room-made}
+use Rattle.iteration.proofs.RunLaws.{room-made}
 use Rattle.iteration.specs.Runs.{Room}
-use Rattle.rounds.specs.Turns.{Reached, found, found_within, known-moved, reached-last, reached-start, round-moves, round-rests, round-stops}
+use Rattle.rounds.proofs.Turns.{round-moves, round-rests, round-stops}
+use Rattle.rounds.proofs.Turns.{Reached, found, found_within, known-moved, reached-last, reached-start}
 use Rattle.sweeps.specs.Sweeps.{Known}
 use Rattle.sweeps.specs.SweepsLaws.{ready}
 use Rattle.rounds.proofs.regulate.Goals as goal

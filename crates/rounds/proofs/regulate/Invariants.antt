@@ -4,7 +4,7 @@ use Rattle.std.specs.Prelude.{replicate}
 use Rattle.arrays.specs.Arrays.{network_of, no_numbers}
 use Rattle.feeder.specs.Feeder.{Feeder}
 use Rattle.feeder.specs.Network.{Held}
-use Rattle.rounds.specs.Turns.{Reached}
+use Rattle.rounds.proofs.Turns.{Reached}
 use Rattle.sweeps.specs.Sweeps.{Known}
 use Rattle.rounds.proofs.regulate.Given as goal
 

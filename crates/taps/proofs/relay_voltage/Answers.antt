@@ -9,7 +9,8 @@ use borrow.Author.Rules.{sfits_of}
 use Rattle.equations.specs.Limits.{counted-most, counted-some}
 use Rattle.equations.specs.Taps.{relay_voltage}
 use Rattle.integers.specs.Machine.{abs-read}
-use Rattle.integers.specs.PairLaws.{Within, room, within_more, within-mul, within-rnd}
+use Rattle.integers.specs.PairLaws.{Within, room, within_more, within-mul}
+use Rattle.integers.proofs.PairLaws.{within-rnd}
 use Rattle.integers.specs.Pairs.{◌-c◌, ◌·c◌, rnd_pair}
 use Rattle.taps.proofs.relay_voltage.Goals as goal
 use Rattle.taps.proofs.relay_voltage.Goals.{After-round-less, After-round-seen, After-size-current, After-size-potential, Start}

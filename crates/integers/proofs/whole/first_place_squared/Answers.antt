@@ -2,7 +2,8 @@
 use mathlib.Core.Path.{ap, sym}
 use native.Mathlib.Omega.{arith}
 use borrow.Author.Rules.{rules}
-use Rattle.integers.specs.RootSteps.{place_squared, place-shifted}
+use Rattle.integers.specs.RootSteps.{place_squared}
+use Rattle.integers.proofs.RootSteps.{place-shifted}
 use Rattle.integers.proofs.whole.first_place_squared.Goals as goal
 
 pub returns-then-k-eq0 : goal.returns-then-k-eq0

@@ -15,7 +15,7 @@ use mir.ValLaws.{sfits_le}
 use Rattle.integers.specs.Whole.{pos_part, neg_part, one-part, abs-parts, add_parts, pos-neg, neg-neg, parts, zarith, abs_neg, parts-eq, le_z-true, le_z-false}
 use Rattle.integers.specs.Machine.{sfits, read}
 use Rattle.integers.specs.Rounding.{rnd}
-use Rattle.integers.specs.RoundingLaws.{near-stay, near_next}
+use Rattle.integers.proofs.RoundingLaws.{near-stay, near_next}
 use Rattle.integers.proofs.whole.rnd_div.Goals as goal
 use Rattle.integers.proofs.whole.rnd_div.Goals.{Else-b-r, Else-b-r-2, Else-r-ge0, Start, Then-b-r, Then-b-r-2, Then-r-ge0}
 

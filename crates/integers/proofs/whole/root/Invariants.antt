@@ -5,7 +5,7 @@ use Prim.Native.Nat.{suc, ◌+◌, ◌-◌, ◌≤◌}
 use native.Mathlib.Nat.{sub-zero}
 use native.Mathlib.Omega.{arith}
 use borrow.Author.Rules.{rules}
-use Rattle.integers.specs.RootSteps.{Rooting, next-room, rooting-end, rooting-one, rooting-start, rooting-zero}
+use Rattle.integers.proofs.RootSteps.{Rooting, next-room, rooting-end, rooting-one, rooting-start, rooting-zero}
 use Rattle.integers.proofs.whole.root.Given as goal
 
 abbrev pub invariant-loop-steps : goal.invariant-loop-steps

@@ -1,7 +1,7 @@
 -- `whole::root_digits` meets its contract: 32 less half of the count of leading zeros. Assumes nothing.
 use native.Mathlib.Omega.{arith}
 use lib.Count.{leading_le}
-use Rattle.integers.specs.RootSteps.{leading-digits}
+use Rattle.integers.proofs.RootSteps.{leading-digits}
 use Rattle.integers.proofs.whole.root_digits.Goals as goal
 
 pub overflow_sub-result : goal.overflow_sub-result

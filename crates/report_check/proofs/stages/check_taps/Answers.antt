@@ -11,7 +11,7 @@ use Rattle.compare.specs.Differences.{tap_differs}
 use Rattle.feeder.specs.Feeder.{Feeder, no_branch, row_count}
 use Rattle.feeder.specs.Network.{Held, branch_array}
 use Rattle.feeder.specs.NetworkLaws.{length-kept}
-use Rattle.feeder.specs.TapLaws.{Retapped}
+use Rattle.feeder.proofs.TapLaws.{Retapped}
 use Rattle.feeder.specs.declared.Branch.{Branch}
 use Rattle.feeder.specs.declared.Network.{Network}
 use Rattle.report.specs.Report.{Reported, reported_taps, with_reported}

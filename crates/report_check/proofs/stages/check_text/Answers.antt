@@ -11,7 +11,7 @@ use Rattle.feeder.specs.Feeder.{Feeder, row_count}
 use Rattle.feeder.specs.Network.{Held}
 use Rattle.feeder.specs.declared.Network.{Network}
 use Rattle.report.specs.Report.{Reported, report_of}
-use Rattle.report.specs.ReportTaps.{reported-within}
+use Rattle.report.proofs.ReportTaps.{reported-within}
 use Rattle.report_check.specs.CheckStages.{ReportFound, goes50, refused50, report-read, report-refused}
 use Rattle.report_reader.specs.Read.{FeederShown, ReportIs, ReportRead, TapsHeld, report_read}
 use Rattle.report_check.proofs.stages.check_text.Goals as goal

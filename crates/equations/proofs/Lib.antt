@@ -1,0 +1,3 @@
+-- Laws, which rest on the definitions of specs/
+pub mod LowVoltage
+pub mod TapMoves

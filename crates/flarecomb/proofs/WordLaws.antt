@@ -1,0 +1,95 @@
+-- The words of all answers fit into 64 bits, and each can be taken apart into the sweeps, the number and the value. Assumes nothing.
+use Rattle.std.specs.Prelude.{List, ◌≡◌, refl, ◌<◌, ◌^◌, ◌≤◌, ℕ}
+use Rattle.std.proofs.Common.{◌∙◌, arith}
+use Rattle.answers.specs.Answers.{number_of, value_of}
+use Rattle.answers.specs.declared.Refusal.{Refusal}
+use Rattle.answers.specs.declared.Refusal.TheVariants.{BufferShort, CurrentBeyond, CurrentDiffers, Layout, LoadBeyond, NameDiffers, NotReached, NotSettled, NotZero, OutOfLimit, PhaseAbsent, ReportLayout, SecondTo, SourceDiffers, TapDiffers, TapsMoving, TooLong, TotalDiffers, UnknownFrom, VoltageBeyond, VoltageOff, ZeroVoltage}
+use Rattle.flarecomb.specs.CheckValues.{check-value}
+use Rattle.flarecomb.specs.StudyValues.{study-length, study-sweeps, study-value}
+use Rattle.flarecomb.specs.Words.{CheckWord, StudyWord, number_in, sweeps_in, value_in, word, word_of_check, word_of_study}
+use Rattle.ladder.specs.Study.{fitted, study_number, study_of, study_sweeps, study_value}
+use Rattle.ladder.proofs.StudyLaws.{study-told}
+use Rattle.ladder.specs.declared.Study.{Study}
+use Rattle.ladder.specs.declared.Study.TheVariants.{NoReport, Written}
+use Rattle.verdicts.specs.Check.{check_number, check_of, check_value, checked}
+use Rattle.verdicts.proofs.Passed.{check-told}
+use Rattle.verdicts.specs.declared.Verdict.{Verdict}
+use Rattle.verdicts.specs.declared.Verdict.TheVariants.{Fail, Pass}
+
+-- ---- a word of sweeps and a number below 2^16 and a value below 2^32
+pub record Apart (w sweeps number value : ℕ) : Type 0 where
+  pub fits : w < 2 ^ 64
+  pub sweeps-back : sweeps_in w ≡ sweeps
+  pub number-back : number_in w ≡ number
+  pub value-back : value_in w ≡ value
+
+pub apart : (sweeps number value : ℕ) → sweeps < 2 ^ 16 → number < 2 ^ 16 → value < 2 ^ 32 → Apart (word sweeps number value) sweeps number value
+unfolding word
+apart sweeps number value o p q = record {
+  fits = omega arith;
+  sweeps-back = omega arith;
+  number-back = omega arith;
+  value-back = omega arith;
+}
+
+-- the table's numbers are 9 to 56
+pub numbers-in : (x : Refusal) → (9 ≤ number_of x) × (number_of x ≤ 56)
+numbers-in TooLong = (omega arith, omega arith)
+numbers-in (Layout n) = (omega arith, omega arith)
+numbers-in (OutOfLimit n) = (omega arith, omega arith)
+numbers-in (UnknownFrom n) = (omega arith, omega arith)
+numbers-in (SecondTo n) = (omega arith, omega arith)
+numbers-in (NotReached n) = (omega arith, omega arith)
+numbers-in (PhaseAbsent n) = (omega arith, omega arith)
+numbers-in (NotZero n) = (omega arith, omega arith)
+numbers-in (ZeroVoltage n) = (omega arith, omega arith)
+numbers-in (LoadBeyond n) = (omega arith, omega arith)
+numbers-in (CurrentBeyond n) = (omega arith, omega arith)
+numbers-in (VoltageBeyond n) = (omega arith, omega arith)
+numbers-in (NotSettled n) = (omega arith, omega arith)
+numbers-in (TapsMoving n) = (omega arith, omega arith)
+numbers-in (BufferShort n) = (omega arith, omega arith)
+numbers-in ReportLayout = (omega arith, omega arith)
+numbers-in (NameDiffers n) = (omega arith, omega arith)
+numbers-in (SourceDiffers n) = (omega arith, omega arith)
+numbers-in (CurrentDiffers n) = (omega arith, omega arith)
+numbers-in (VoltageOff n) = (omega arith, omega arith)
+numbers-in TotalDiffers = (omega arith, omega arith)
+numbers-in (TapDiffers n) = (omega arith, omega arith)
+
+pub refusal-apart : (x : Refusal) → value_of x < 2 ^ 32 → Apart (word 0 (number_of x) (value_of x)) 0 (number_of x) (value_of x)
+refusal-apart x q = let n = numbers-in x in apart 0 (number_of x) (value_of x) (omega arith) (omega arith) q
+
+-- ---- every word that the study, and that the check, answers
+pub study-apart : (s : List ℕ) (n : ℕ) → let r = study_of s n in Apart (word_of_study r) (study_sweeps r) (study_number r) (study_value r)
+study-apart s n = by (study_of s n) refl
+  where
+    by : (x : Study) → study_of s n ≡ x → Apart (word_of_study x) (study_sweeps x) (study_number x) (study_value x)
+    by (Written len k) e = let l = study-length s n len k e in let m = study-sweeps s n len k e in apart k 0 len (omega arith) (omega arith) (omega arith)
+    by (NoReport x) e = let k = study-value s n x e in refusal-apart x (omega arith)
+
+pub check-apart : (s t : List ℕ) → let v = check_of s t in Apart (word_of_check v) 0 (check_number v) (check_value v)
+check-apart s t = by (check_of s t) refl
+  where
+    by : (x : Verdict) → check_of s t ≡ x → Apart (word_of_check x) 0 (check_number x) (check_value x)
+    by Pass e = apart 0 0 0 (omega arith) (omega arith) (omega arith)
+    by (Fail x) e = let k = check-value s t x e in refusal-apart x (omega arith)
+
+-- so a word tells the number, the value and the sweeps of its outcome
+pub study-word : (s : List ℕ) (n w : ℕ) → w ≡ word_of_study (study_of s n) → StudyWord (fitted s n) w
+study-word s n w e =
+    let a = study-apart s n in
+    let h = study-told s n (study_of s n) refl in
+    rw e (record { fits = a.fits; told = record { number = a.number-back ∙ h.told.number; value = a.value-back ∙ h.told.value }; sweeps = a.sweeps-back ∙ h.sweeps })
+
+pub check-word : (s t : List ℕ) (w : ℕ) → w ≡ word_of_check (check_of s t) → CheckWord (checked s t) w
+check-word s t w e =
+    let a = check-apart s t in
+    let h = check-told s t {v = check_of s t} refl in
+    rw e (record { fits = a.fits; told = record { number = a.number-back ∙ h.number; value = a.value-back ∙ h.value }; sweeps = a.sweeps-back })
+
+-- ---- the check's word is 0 for a pass and for nothing else
+pub zero-passes : (x : Verdict) → word_of_check x ≡ 0 → x ≡ Pass
+unfolding word
+zero-passes Pass e = refl
+zero-passes (Fail x) e = let n = numbers-in x in absurd (omega arith)

@@ -1,0 +1,3 @@
+-- Laws, which rest on the definitions of specs/
+pub mod RoundsLaws
+pub mod Turns
