@@ -5,7 +5,6 @@ use Rattle.std.proofs.Math.Path.{subst}
 use Rattle.std.proofs.lemmas.List.{length-map}
 use Rattle.std.specs.Int.Signed.{le_z}
 use Rattle.answers.specs.Answers.{good}
-use Rattle.equations.specs.Equations.{at}
 use Rattle.equations.specs.Limits.{Counted, DeviceOk, LoadOk, WindingsOk, between-counted, counted-more}
 use Rattle.equations.specs.Sizes.{Within3}
 use Rattle.feeder.specs.Feeder.{Feeder, above, between, branch_at, branch_in, column_of, delta, device_of, feeder_of, in_limit, load_in, load_of, nodes_of, out_of_limit, parent, reading, row_count, source_in, tap_at, tapped, taps_on, three_at, vn_most}

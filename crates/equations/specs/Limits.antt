@@ -24,7 +24,7 @@ use Rattle.feeder.specs.declared.Windings.{Windings}
 use Rattle.integers.specs.Bools.{both, true-T}
 use Rattle.integers.specs.PairLaws.{Within, square-bound, within-le, within_more, within-mul, within-mul-conj, within-scaled, within-sub}
 use Rattle.integers.proofs.PairLaws.{within-div, within-rnd}
-use Rattle.integers.specs.Pairs.{◌-c◌, ◌·*◌, ◌·c◌, inside, rnd_pair, scaled, square}
+use Rattle.integers.specs.Pairs.{◌·*◌, ◌·c◌, inside, rnd_pair, scaled, square}
 use Rattle.integers.specs.Root.{root}
 use Rattle.integers.specs.RootLaws.{root-bound}
 use Rattle.integers.specs.Whole.{abs-parts, le_parts, one-part, parts, parts-le}

@@ -4,7 +4,7 @@ use Rattle.std.proofs.Common.{ap, subst, arith, eq-eqb, eqb-true, ltb-true}
 use Rattle.std.proofs.lemmas.List.{length-map}
 use Rattle.std.proofs.lemmas.Bool.{not-false}
 use Rattle.answers.specs.AnswerLaws.{bound, not_at, not-if, same_good}
-use Rattle.answers.specs.Answers.{◌>>=◌, ◌>>◌, good}
+use Rattle.answers.specs.Answers.{◌>>=◌, good}
 use Rattle.answers.specs.declared.Found.TheVariants.{Nothing}
 use Rattle.answers.specs.declared.Refusal.TheVariants.{TooLong}
 use Rattle.feeder.specs.Feeder.{Feeder, above, branch_at, branch_of, feeder_of, known, no_branch, nodes_of, not_reached, not_zero, out_of_limit, parent, phase_absent, place_of, reading, row_count, second_to, too_long, unknown_from}

@@ -1,5 +1,5 @@
 -- A file that is read is the one that its rows are written as, and these can be written: the format has one text for each feeder. Assumes nothing.
-use Rattle.std.specs.Prelude.{List, [], ◌++◌, ◌∷◌, ◌≡◌, refl, ◌+◌, ◌<◌, ◌≤◌, ℕ, drop, get_or, length}
+use Rattle.std.specs.Prelude.{List, [], ◌++◌, ◌∷◌, ◌≡◌, refl, ◌<◌, ◌≤◌, ℕ, drop, get_or, length}
 use Rattle.std.proofs.Common.{append_assoc, append-nil, ◌∙◌, ap, subst, arith, drop_of_length-le, length-append, length-drop, eqb-true}
 use Prim.Native.String.{String}
 use Rattle.answers.specs.AnswerLaws.{bound, same_good}

@@ -1,6 +1,6 @@
 -- Nodes by their names (Faults) and by their numbers (Feeder): which names are nodes, which row feeds a node, which nodes are reached, and which phases a node
 -- has. Where each node stands once as "to", the two ways to speak of nodes say the same. Assumes nothing.
-use Rattle.std.specs.Prelude.{Bool, cond, List, [], ◌∷◌, ◌⊎◌, ◌≡◌, eqb}
+use Rattle.std.specs.Prelude.{Bool, cond, List, [], ◌∷◌, ◌≡◌, eqb}
 use Rattle.std.proofs.Math.Bool.{false, not, true}
 use Rattle.std.proofs.Common.{inl, inr, ◌∙◌, subst, sym, arith}
 use Rattle.std.proofs.Math.Logic.{⊎_elim}

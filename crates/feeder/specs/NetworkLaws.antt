@@ -1,5 +1,5 @@
 -- What an array keeps of a list: what stands at each place, and one row more. Assumes nothing.
-use Rattle.std.specs.Prelude.{List, [], ◌++◌, ◌∷◌, ◌≡◌, refl, ◌+◌, ◌<◌, ◌≤◌, suc, zero, ℕ, get_or, length, set, take}
+use Rattle.std.specs.Prelude.{List, [], ◌++◌, ◌∷◌, ◌≡◌, refl, ◌<◌, ◌≤◌, suc, zero, ℕ, get_or, length, set, take}
 use Rattle.std.proofs.Common.{ap, arith}
 use Rattle.feeder.specs.Network.{kept}
 

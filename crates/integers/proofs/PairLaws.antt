@@ -1,5 +1,5 @@
 -- Pairs: rounding makes nothing larger. Assumes nothing.
-use Rattle.std.specs.Prelude.{ℕ, ◌*◌, ◌≤◌, ◌<◌, nat_abs}
+use Rattle.std.specs.Prelude.{ℕ, ◌*◌, ◌<◌, nat_abs}
 use Rattle.std.proofs.Common.{arith}
 use Rattle.integers.specs.declared.Pair.{Pair}
 use Rattle.integers.specs.Pairs.{rnd_pair}

@@ -1,10 +1,10 @@
 -- Pairs: how large what is worked with them can be, what the tests on them say, and the laws of their sums. Assumes nothing.
-use Rattle.std.specs.Prelude.{◌≡◌, true, ℕ, ◌+◌, ◌*◌, ◌≤◌, ◌<◌, ◌^◌, T, leb, ℤ, nat_abs, neg_ℤ, ◌+ℤ◌, ◌-ℤ◌, ◌*ℤ◌}
+use Rattle.std.specs.Prelude.{◌≡◌, true, ℕ, ◌+◌, ◌*◌, ◌≤◌, ◌^◌, T, leb, ℤ, nat_abs, neg_ℤ, ◌+ℤ◌, ◌-ℤ◌, ◌*ℤ◌}
 use Rattle.std.proofs.Common.{arith, mul-le-mul, leb→le, leb-true, le-leb, SFits}
 use Rattle.std.proofs.Math.IntN.{+ℤ_assoc, +ℤ_comm, +ℤ_idl, +ℤ_idr, +ℤ_invr}
 use Rattle.std.specs.Int.{w64}
 use Rattle.integers.specs.declared.Pair.{Pair}
-use Rattle.integers.specs.Pairs.{0c, ◌+c◌, ◌-c◌, ◌·c◌, ◌·*◌, scaled, rnd_pair, square, inside, within, close, same}
+use Rattle.integers.specs.Pairs.{0c, ◌+c◌, ◌-c◌, ◌·c◌, ◌·*◌, scaled, square, inside, within, close, same}
 use Rattle.integers.specs.Bools.{both, joined}
 use Rattle.integers.specs.Whole.{abs-add, abs-sub, abs-mul, abs-parts, add_parts, pos-neg, neg-neg, parts-eq}
 

@@ -8,7 +8,6 @@ use Rattle.answers.specs.declared.Refusal.TheVariants.{BufferShort}
 use Rattle.feeder.specs.Feeder.{reading}
 use Rattle.feeder.proofs.FeederLaws.{sound}
 use Rattle.feeder.proofs.TapLaws.{sound-taps}
-use Rattle.iteration.specs.Ladder.{solution}
 use Rattle.iteration.proofs.LadderLaws.{sweeps-in}
 use Rattle.ladder.specs.Study.{Report, StudyGood, StudyTold, answered, fitted, report, study_of}
 use Rattle.ladder.specs.declared.Study.{Study}

@@ -2,7 +2,7 @@
 use Rattle.std.specs.Prelude.{List, ◌≡◌, ◌≤◌, ℕ, ltb, length}
 use Rattle.std.proofs.Common.{◌∙◌, ap, sym, arith}
 use Rattle.answers.specs.AnswerLaws.{stopped}
-use Rattle.answers.specs.Answers.{Outcome, ◌>>=◌, ◌>>◌, refuse_if}
+use Rattle.answers.specs.Answers.{Outcome, ◌>>=◌, refuse_if}
 use Rattle.answers.specs.Only.{after-only, good-only, if-only, then-only}
 use Rattle.answers.specs.declared.Refusal.TheVariants.{BufferShort}
 use Rattle.feeder.specs.Feeder.{Feeder, reading}

@@ -1,6 +1,6 @@
 -- What the passes over a feeder's arrays require, and what they give. Assumes nothing.
 use Rattle.std.specs.Prelude.{Bool, not, true, ◌∷◌, List, map, ◌≡◌, ◌+◌, ◌<◌, suc, ℕ, get_or, length}
-use Rattle.equations.specs.Equations.{at, current_beyond, loss_of, lost_power, upward, voltage_beyond, voltages, zero3}
+use Rattle.equations.specs.Equations.{current_beyond, loss_of, lost_power, upward, voltage_beyond, voltages, zero3}
 use Rattle.equations.specs.Limits.{DeviceOk}
 use Rattle.equations.specs.Sizes.{Within3}
 use Rattle.feeder.specs.Feeder.{Feeder, no_branch, row_count, rows_of}

@@ -11,7 +11,7 @@ use Rattle.answers.specs.declared.Refusal.TheVariants.{ReportLayout}
 use Rattle.integers.specs.Lists.{All}
 use Rattle.report.specs.Report.{rows_just, table_of, table_text}
 use Rattle.text.specs.LineText.{line-more}
-use Rattle.text.specs.Lines.{Readable, Row, row_text, text}
+use Rattle.text.specs.Lines.{Readable, Row, row_text}
 use Rattle.text.specs.NameText.{letters-8}
 use Rattle.integers.specs.ListLaws.{all_map}
 use Rattle.text.specs.NumberText.{decimal-19}

@@ -1,5 +1,5 @@
 -- Laws of the lines: their lengths. Assumes nothing.
-use Rattle.std.specs.Prelude.{◌≡◌, ◌*◌, ◌+◌, ◌-◌, ◌≤◌, suc, ℕ, negsuc, pos, ℤ, length}
+use Rattle.std.specs.Prelude.{◌≡◌, ◌*◌, ◌+◌, ◌≤◌, suc, ℕ, negsuc, pos, ℤ, length}
 use Rattle.std.proofs.Common.{arith, length-append}
 use Rattle.equations.specs.Equations.{at}
 use Rattle.feeder.specs.declared.Phase.{Phase}

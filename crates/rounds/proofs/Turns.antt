@@ -29,7 +29,7 @@ use Rattle.rounds.specs.Rounds.{Regulated, regulated, rounds}
 use Rattle.rounds.proofs.RoundsLaws.{rounds-step}
 use Rattle.sweeps.specs.Retapped.{retapped-held, retapped-known, with_branches}
 use Rattle.sweeps.specs.Sweeps.{Known}
-use Rattle.rounds.specs.Turns.{Regulating-is, RegulatedAs}
+use Rattle.rounds.specs.Turns.{RegulatedAs}
 
 -- with `left` rounds to go the arrays hold a feeder whose rounds are those of f
 pub record Reached (f : Feeder) (left : ℕ) (n : Network) : Type 0 where

@@ -1,5 +1,5 @@
 -- The regulators among the rows of an array of branches, and taps that a report may have. Assumes nothing.
-use Rattle.std.specs.Prelude.{Bool, ◌&&◌, cond, false, true, List, [], ◌∷◌, ◌≡◌, refl, ◌+◌, ◌-◌, ◌<◌, ◌≤◌, suc, ℕ, ℤ, get_or, length}
+use Rattle.std.specs.Prelude.{Bool, ◌&&◌, cond, false, true, List, ◌∷◌, ◌≡◌, ◌+◌, ◌-◌, ◌<◌, ◌≤◌, suc, ℕ, ℤ, get_or, length}
 use Rattle.std.proofs.Math.Bool.{and-true}
 use Rattle.std.proofs.Common.{ap, arith}
 use Rattle.feeder.specs.Feeder.{Feeder, branch_at, no_branch, regulates, regulators, row_count}

@@ -2,7 +2,6 @@
 use Rattle.std.specs.Prelude.{List, [], ◌∷◌, ◌≡◌, ◌≤◌, ℕ, ℤ, length}
 use Rattle.answers.specs.Answers.{good}
 use Rattle.answers.specs.declared.Refusal.TheVariants.{ReportLayout}
-use Rattle.integers.specs.Pairs.{within}
 use Rattle.text.specs.Promises.{filled}
 use Rattle.text.specs.Lines.{names, numbers}
 use Rattle.text.specs.declared.lines.Next.TheVariants.{Behind}

@@ -2,7 +2,6 @@
 use Rattle.std.specs.Prelude.{Bool, List, map, ◌≡◌, ◌≤◌, ℕ, ℤ, length}
 use Rattle.answers.specs.Answers.{Outcome, good}
 use Rattle.answers.specs.declared.Refusal.TheVariants.{ReportLayout}
-use Rattle.integers.specs.Pairs.{within}
 use Rattle.text.specs.Lines.{Row, nth, row, word_of}
 use Rattle.feeder.specs.Feeder.{no_taps}
 use Rattle.feeder.specs.Network.{kept}

@@ -1,5 +1,5 @@
 -- The rows of the last table, read one after the other into arrays, and the report's end behind them. Assumes nothing.
-use Rattle.std.specs.Prelude.{false, true, List, [], ◌++◌, ◌∷◌, ◌≡◌, refl, ◌+◌, ◌-◌, ◌<◌, ◌≤◌, ℕ, length, replicate, set}
+use Rattle.std.specs.Prelude.{false, true, List, [], ◌++◌, ◌∷◌, ◌≡◌, ◌+◌, ◌-◌, ◌<◌, ◌≤◌, ℕ, length, replicate, set}
 use Rattle.std.proofs.Common.{◌∙◌, sym, arith, length-append}
 use borrow.Author.Tests.{eq-eqb, ne_eqb}
 use Rattle.answers.specs.Answers.{good, refused}

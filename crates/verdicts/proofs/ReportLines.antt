@@ -1,5 +1,5 @@
 -- Line n of a report is the text of the row that stands in line n (ReportFaults). Assumes nothing.
-use Rattle.std.specs.Prelude.{Bool, not, true, List, [], ◌∷◌, map, ◌≡◌, refl, ◌+◌, suc, zero, ℕ, ℤ, drop, length, take}
+use Rattle.std.specs.Prelude.{not, true, List, [], ◌∷◌, map, ◌≡◌, refl, ◌+◌, suc, zero, ℕ, ℤ, drop, length, take}
 use Rattle.std.proofs.Common.{◌∙◌, ap, subst, arith}
 use Prim.Native.String.{String}
 use Rattle.answers.specs.AnswerLaws.{bound, not-if, same_good}

@@ -1,6 +1,5 @@
 -- `pairs::close` meets its contract: the difference is within n. Assumes nothing.
 use mathlib.Core.Path.{ap, ◌∙◌}
-use borrow.Author.Rules.{rules}
 use Rattle.integers.specs.Pairs.{◌-c◌, within, close}
 use Rattle.integers.proofs.pairs.close.Goals as goal
 

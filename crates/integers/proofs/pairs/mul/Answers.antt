@@ -1,5 +1,4 @@
 -- `pairs::mul` meets its contract: `Room` is what the two sums of products ask. Assumes nothing.
-use borrow.Author.Rules.{rules}
 use Rattle.integers.specs.Machine.{zcalls}
 use Rattle.integers.specs.Pairs.{◌·c◌}
 use Rattle.integers.specs.PairLaws.{pair_eq}

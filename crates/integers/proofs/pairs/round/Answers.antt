@@ -1,5 +1,4 @@
 -- `pairs::round` meets its contract: part by part. Assumes nothing.
-use borrow.Author.Rules.{rules}
 use Rattle.integers.specs.Machine.{zcalls}
 use Rattle.integers.specs.Pairs.{rnd_pair}
 use Rattle.integers.specs.PairLaws.{pair_eq}

@@ -5,7 +5,7 @@ use native.Mathlib.Nat.{mul-le-mul}
 use native.Mathlib.Omega.{arith}
 use lib.IntN.{nat_abs}
 use mir.Facts.{to_z-of_z}
-use borrow.Author.Rules.{rules, sfits_of}
+use borrow.Author.Rules.{sfits_of}
 use Rattle.integers.specs.Pairs.{square}
 use Rattle.integers.specs.PairLaws.{Fits}
 use Rattle.integers.proofs.pairs.square.Goals as goal

@@ -1,7 +1,7 @@
 -- `pairs::within` meets its contract: both parts are tested. Assumes nothing.
 use mathlib.Core.Path.{◌≡◌, ap, ◌∙◌}
 use mir.Facts.{to_z-of_z}
-use borrow.Author.Rules.{rules, sfits_of}
+use borrow.Author.Rules.{sfits_of}
 use Rattle.integers.specs.Bools.{and_yes, and_no}
 use Rattle.integers.specs.Pairs.{inside, within}
 use Rattle.integers.specs.PairLaws.{Fits}

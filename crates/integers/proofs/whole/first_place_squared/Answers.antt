@@ -1,7 +1,6 @@
 -- `whole::first_place_squared` meets its contract: a shift by twice the number of digits behind the first. Assumes nothing.
 use mathlib.Core.Path.{ap, sym}
 use native.Mathlib.Omega.{arith}
-use borrow.Author.Rules.{rules}
 use Rattle.integers.specs.RootSteps.{place_squared}
 use Rattle.integers.proofs.RootSteps.{place-shifted}
 use Rattle.integers.proofs.whole.first_place_squared.Goals as goal

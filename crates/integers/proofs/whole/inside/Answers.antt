@@ -3,7 +3,6 @@ use mathlib.Core.Path.{ap, ◌∙◌}
 use lib.Dec.{leb}
 use lib.IntN.{nat_abs}
 use mir.Facts.{to_z-of_z}
-use borrow.Author.Rules.{rules}
 use Rattle.integers.specs.Pairs.{inside}
 use Rattle.integers.proofs.whole.inside.Goals as goal
 

@@ -5,7 +5,7 @@ use lib.IntN.{pos, nat_abs}
 use lib.Signed.{lt_z_yes}
 use mir.Facts.{to_z-of_z}
 use mir.Syntax.{w64}
-use borrow.Author.Rules.{rules, sfits_of}
+use borrow.Author.Rules.{sfits_of}
 use Rattle.integers.specs.Machine.{read}
 use Rattle.integers.specs.Rounding.{rnd}
 use Rattle.integers.proofs.whole.rnd_to.Goals as goal

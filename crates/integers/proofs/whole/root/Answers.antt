@@ -1,10 +1,8 @@
 -- `whole::root` meets its contract. The invariant: `Rooting`, with as many digits to come as steps, and no more steps than digits. Assumes nothing.
 use mathlib.Core.Path.{◌≡◌}
-use mathlib.Core.Logic.{⊎_elim}
-use Prim.Native.Nat.{suc, ◌+◌, ◌-◌, ◌≤◌}
+use Prim.Native.Nat.{suc, ◌+◌, ◌-◌}
 use native.Mathlib.Nat.{sub-zero}
 use native.Mathlib.Omega.{arith}
-use borrow.Author.Rules.{rules}
 use Rattle.integers.proofs.RootSteps.{Rooting, next-room, rooting-end, rooting-one, rooting-start, rooting-zero}
 use Rattle.integers.proofs.whole.root.Goals as goal
 use Rattle.integers.proofs.whole.root.Goals.{In-loop-steps, then-trial-left, else-trial-left}
