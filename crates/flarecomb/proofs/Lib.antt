@@ -1,2 +1,3 @@
 -- Laws, which rest on the definitions of specs/
+pub mod Apart
 pub mod WordLaws

@@ -6,7 +6,8 @@ use Rattle.answers.specs.declared.Refusal.{Refusal}
 use Rattle.answers.specs.declared.Refusal.TheVariants.{BufferShort, CurrentBeyond, CurrentDiffers, Layout, LoadBeyond, NameDiffers, NotReached, NotSettled, NotZero, OutOfLimit, PhaseAbsent, ReportLayout, SecondTo, SourceDiffers, TapDiffers, TapsMoving, TooLong, TotalDiffers, UnknownFrom, VoltageBeyond, VoltageOff, ZeroVoltage}
 use Rattle.flarecomb.specs.CheckValues.{check-value}
 use Rattle.flarecomb.specs.StudyValues.{study-length, study-sweeps, study-value}
-use Rattle.flarecomb.specs.Words.{CheckWord, StudyWord, number_in, sweeps_in, value_in, word, word_of_check, word_of_study}
+use Rattle.flarecomb.specs.Words.{CheckWord, StudyWord, word, word_of_check, word_of_study}
+use Rattle.flarecomb.proofs.Apart.{Apart, apart}
 use Rattle.ladder.specs.Study.{fitted, study_number, study_of, study_sweeps, study_value}
 use Rattle.ladder.proofs.StudyLaws.{study-told}
 use Rattle.ladder.specs.declared.Study.{Study}
@@ -15,22 +16,6 @@ use Rattle.verdicts.specs.Check.{check_number, check_of, check_value, checked}
 use Rattle.verdicts.proofs.Passed.{check-told}
 use Rattle.verdicts.specs.declared.Verdict.{Verdict}
 use Rattle.verdicts.specs.declared.Verdict.TheVariants.{Fail, Pass}
-
--- ---- a word of sweeps and a number below 2^16 and a value below 2^32
-pub record Apart (w sweeps number value : ℕ) : Type 0 where
-  pub fits : w < 2 ^ 64
-  pub sweeps-back : sweeps_in w ≡ sweeps
-  pub number-back : number_in w ≡ number
-  pub value-back : value_in w ≡ value
-
-pub apart : (sweeps number value : ℕ) → sweeps < 2 ^ 16 → number < 2 ^ 16 → value < 2 ^ 32 → Apart (word sweeps number value) sweeps number value
-unfolding word
-apart sweeps number value o p q = record {
-  fits = omega arith;
-  sweeps-back = omega arith;
-  number-back = omega arith;
-  value-back = omega arith;
-}
 
 -- the table's numbers are 9 to 56
 pub numbers-in : (x : Refusal) → (9 ≤ number_of x) × (number_of x ≤ 56)

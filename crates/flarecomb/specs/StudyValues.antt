@@ -10,8 +10,6 @@ use Rattle.equations.specs.Fit.{fit}
 use Rattle.feeder.specs.Feeder.{Feeder, reading}
 use Rattle.flarecomb.specs.ReadingValues.{reading-up-to}
 use Rattle.flarecomb.specs.Values.{UpTo}
-use Rattle.iteration.specs.Ladder.{solution}
-use Rattle.equations.specs.Equations.{currents, voltages}
 use Rattle.feeder.proofs.FeederLaws.{sound}
 use Rattle.feeder.proofs.TapLaws.{sound-taps}
 use Rattle.ladder.specs.Stages.{fitted-is, fitted_from, fitted_with, text_of}

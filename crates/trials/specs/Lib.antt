@@ -1,4 +1,5 @@
 pub mod Opened
+pub mod Values
 pub mod Example
 pub mod Roots
 pub mod Numbers
