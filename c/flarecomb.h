@@ -1,9 +1,9 @@
 /*
  * Flarecomb for C: the study of a feeder, and the check of a report against its feeder.
  *
- * Link libflarecomb.a, which `rt staticlib flarecomb` writes to target/staticlib (x86-64 Linux). It needs two functions of the C library,
- * memcpy and memset, and nothing else: no start-up code, no other library, no option of the linker. c/run.sh has the command, and those for a
- * shared library, for Python and for Rust. `bash c/install.sh PREFIX` installs header and library, with a file for pkg-config.
+ * Link libflarecomb.a, which `bash tools/build.sh flarecomb` puts into target/staticlib (x86-64 Linux). It needs two functions of the C
+ * library, memcpy and memset, and nothing else: no start-up code, no other library, no option of the linker. c/run.sh has the command, and
+ * those for a shared library, for Python and for Rust. `bash c/install.sh PREFIX` installs header and library, with a file for pkg-config.
  *
  * ANSWERS. Each call answers one number of 64 bits: VALUE + NUMBER * 2^32 + SWEEPS * 2^48.
  *

@@ -1,7 +1,7 @@
 #!/usr/bin/env bash
 # install.sh PREFIX: puts the header, the static library and a file for pkg-config into the folder PREFIX, which is made where it is missing:
 #   PREFIX/include/flarecomb.h, PREFIX/lib/libflarecomb.a, PREFIX/lib/pkgconfig/flarecomb.pc
-# The library must stand built in target/staticlib (rt staticlib flarecomb). Nothing else is touched, so that a PREFIX of one's own needs no root.
+# The library must stand built in target/staticlib (bash tools/build.sh flarecomb). Nothing else is touched, so that a PREFIX of one's own needs no root.
 set -euo pipefail
 if [ $# -ne 1 ] || [ -z "$1" ]; then
     echo "usage: install.sh PREFIX" >&2
@@ -10,7 +10,7 @@ fi
 root=$(cd "$(dirname "$0")/.." && pwd)
 library=$root/target/staticlib/libflarecomb.a
 if [ ! -f "$library" ]; then
-    echo "target/staticlib/libflarecomb.a is missing: run 'rt staticlib flarecomb' first" >&2
+    echo "target/staticlib/libflarecomb.a is missing: run 'bash tools/build.sh flarecomb' first" >&2
     exit 1
 fi
 mkdir -p -- "$1"

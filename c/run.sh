@@ -1,10 +1,10 @@
 #!/usr/bin/env bash
-# Builds the static library and the examples in C, Python and Rust, runs them and compares what they write; installs into a folder and builds the example from
-# there. Python and Rust are left out where there is no python3 or rustc. All that it makes stands in target/.
+# Builds the static library (tools/build.sh) and the examples in C, Python and Rust, runs them and compares what they write; installs into a folder and builds
+# the example from there. Python and Rust are left out where there is no python3 or rustc. All that it makes besides the library stands in target/c.
 set -euo pipefail
 cd "$(dirname "$0")/.."
 
-rt staticlib flarecomb
+bash tools/build.sh flarecomb
 mkdir -p target/c
 compiler=${CC:-cc}
 library=target/staticlib/libflarecomb.a

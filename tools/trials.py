@@ -13,15 +13,15 @@
                   documents 01 and 02; where the file has the account's numbers, they must be the same for every case
   Roots           every case of the whole root and its binary digits, in one table
 
-Run it in the repository's root: python3 tools/trials.py CASES..., then rt fmt and rt check trials. Each of CASES, the base's first and then each
-request's in turn, is a file as archive.py has them, answered as it says there.
+Run it in the repository's root: python3 tools/trials.py CASES..., then rt fmt and rt check in crates/trials. Each of CASES, the base's first and
+then each request's in turn, is a file as archive.py has them, answered as it says there.
 """
 import math, re, sys
 from cases import cases, root_cases
 
 SPECS = 'crates/trials/specs/'
 DEFINITIONS = {'integers': 'Rounding Root Pairs Lists', 'text': 'Text Lines', 'feeder': 'Layout Feeder', 'equations': 'Equations Taps',
-               'report': 'Report', 'iteration': 'Ladder', 'rounds': 'Rounds', 'ladder': 'Study', 'compare': 'Differences', 'report_check': 'Check',
+               'report': 'Report', 'iteration': 'Ladder', 'rounds': 'Rounds', 'ladder': 'Study', 'compare': 'Differences', 'verdicts': 'Check',
                'account': 'Account', 'answer_text': 'AnswerText', 'study_answer': 'StudyAnswer', 'check_answer': 'CheckAnswer'}
 REFUSALS = {10: 'Layout', 11: 'OutOfLimit', 20: 'UnknownFrom', 21: 'SecondTo', 22: 'NotReached', 23: 'PhaseAbsent', 24: 'NotZero',
             30: 'ZeroVoltage', 31: 'LoadBeyond', 32: 'CurrentBeyond', 33: 'VoltageBeyond', 34: 'NotSettled', 35: 'TapsMoving', 40: 'BufferShort',
@@ -73,7 +73,7 @@ def tables(data):
 
 # ---- a case as a theorem
 def text(data):
-    plain = {10: '\\n', 34: '\\"', 92: '\\\\'}
+    plain = {10: '\\n', 13: '\\r', 34: '\\"', 92: '\\\\'}
     return '(bytes "' + ''.join(plain.get(b, chr(b) if 32 <= b < 127 else '\\u{%x}' % b) for b in data) + '")'
 
 
@@ -85,12 +85,12 @@ def theorem(name, case):
         sweeps = tables(report)[2][0][0]
         said = f"fitted {text(case['feeder'])} {length} ≡ good (record {{ text = {text(report)[1:-1]}; sweeps = {sweeps} }})"
     elif answer == 'pass':
-        said = f"checkOf {text(case['feeder'])} {text(case['report'])} ≡ Pass"
+        said = f"check_of {text(case['feeder'])} {text(case['report'])} ≡ Pass"
     else:
         value, = case['expected']['values']
         refusal = REFUSALS[number] if number in NO_VALUE else f'({REFUSALS[number]} {value})'
-        said = (f"studyOf {text(case['feeder'])} {length} ≡ NoReport {refusal}" if call == 'study' else
-                f"checkOf {text(case['feeder'])} {text(case['report'])} ≡ Fail {refusal}")
+        said = (f"study_of {text(case['feeder'])} {length} ≡ NoReport {refusal}" if call == 'study' else
+                f"check_of {text(case['feeder'])} {text(case['report'])} ≡ Fail {refusal}")
     return proved(name, case, said)
 
 
@@ -99,17 +99,17 @@ def proved(name, case, said):
     return f"\n-- {about}\n{name} : {said}\nunfolding opened\n{name} = refl\n"
 
 
-USES = [('mathlib.Core.Path', '_≡_ refl'), ('lib.IntN', 'pos negsuc'), ('Rattle·answers.specs.Answers', 'good'),
-        ('Rattle·answers.specs.declared.Refusal.the-variants', ' '.join(REFUSALS.values())), ('Rattle·text.specs.Text', 'bytes'),
-        ('Rattle·ladder.specs.Study', 'fitted studyOf'), ('Rattle·ladder.specs.declared.Study.the-variants', 'NoReport'),
-        ('Rattle·report_check.specs.Check', 'checkOf'), ('Rattle·report_check.specs.declared.Verdict.the-variants', 'Pass Fail'),
-        ('Rattle·trials·specs.specs.Opened', 'opened accountOf')]
+USES = [('Rattle.std.specs.Prelude', '◌≡◌ refl pos negsuc'), ('Rattle.answers.specs.Answers', 'good'),
+        ('Rattle.answers.specs.declared.Refusal.TheVariants', ' '.join(REFUSALS.values())), ('Rattle.text.specs.Text', 'bytes'),
+        ('Rattle.ladder.specs.Study', 'fitted study_of'), ('Rattle.ladder.specs.declared.Study.TheVariants', 'NoReport'),
+        ('Rattle.verdicts.specs.Check', 'check_of'), ('Rattle.verdicts.specs.declared.Verdict.TheVariants', 'Pass Fail'),
+        ('Rattle.trials.specs.Opened', 'opened account_of')]
 
 
 def module(name, about, theorems):
     theorems = list(theorems)
     body = ''.join(theorems)
-    words = set(re.findall(r'[^\s(){};,"]+', body)) | {'_≡_'}
+    words = set(re.findall(r'[^\s(){};,"]+', body)) | {'◌≡◌'}
     used = [(m, [n for n in names.split() if n in words]) for m, names in USES]
     head = ''.join(f"use {m}.{{{', '.join(names)}}}\n" for m, names in used if names)
     open(SPECS + name + '.antt', 'w').write(f'-- {about} Assumes nothing.\n{head}{body}')
@@ -121,13 +121,12 @@ def opened():
     for crate, modules in DEFINITIONS.items():
         for m in modules.split():
             found = re.findall(r'^unfoldable pub (\S+) :', open(f'crates/{crate}/specs/{m}.antt').read(), re.M)
-            uses += f"use Rattle·{crate}.specs.{m}.{{{', '.join(found)}}}\n"
+            uses += f"use Rattle.{crate}.specs.{m}.{{{', '.join(found)}}}\n"
             names += found
     open(SPECS + 'Opened.antt', 'w').write(f'''-- Every definition behind the answers on one line: a trial computes them all by `unfolding opened`. Assumes nothing.
-use mathlib.Core.List.{{List}}
-use Prim.Native.Nat.{{ℕ}}
-use Rattle·answers.specs.Answers.{{Outcome, good, _>>=_}}
-use Rattle·integers.specs.declared.Pair.{{Pair}}
+use Rattle.std.specs.Prelude.{{List, ℕ}}
+use Rattle.answers.specs.Answers.{{Outcome, good, ◌>>=◌}}
+use Rattle.integers.specs.declared.Pair.{{Pair}}
 {uses}
 -- says nothing by itself
 unfoldable pub opened : Unit {{0}}
@@ -139,11 +138,11 @@ pub record Numbers : Type 0 where
   pub differs : Pair
   pub allowed : ℕ
 
-abbrev pub accountOf : List ℕ → List ℕ → Outcome Numbers
-accountOf s t = do
+abbrev pub account_of : List ℕ → List ℕ → Outcome Numbers
+account_of s t = do
   f ← reading s
-  r ← reportOf f t
-  good (record {{ differs = difference (withReported f r) r; allowed = allowance (withReported f r) r }})
+  r ← report_of f t
+  good (record {{ differs = difference (with_reported f r) r; allowed = allowance (with_reported f r) r }})
 ''')
 
 
@@ -216,7 +215,7 @@ def account_theorem(name, case):
     differs, allowed = account(case['feeder'], case['report'])
     real, reactive = (f'pos {n}' if n >= 0 else f'negsuc {-n - 1}' for n in differs)
     numbers = f'record {{ differs = record {{ re = {real}; im = {reactive} }}; allowed = {allowed} }}'
-    return proved(name, case, f"accountOf {text(case['feeder'])} {text(case['report'])} ≡ good ({numbers})")
+    return proved(name, case, f"account_of {text(case['feeder'])} {text(case['report'])} ≡ good ({numbers})")
 
 
 # ---- the whole root
@@ -224,14 +223,10 @@ def roots(paths):
     found = root_cases(paths)
     rows = '\n    ∷ '.join(f"({case['n']}, {case['expected']['root']}, {case['expected']['steps']})" for case in found)
     open(SPECS + 'Roots.antt', 'w').write(f'''-- Vectors: whole roots, and the number of their binary digits. Assumes nothing.
-use mathlib.Core.Bool.{{true, _&&_}}
-use mathlib.Core.List.{{List, [], _∷_}}
-use mathlib.Core.Path.{{_≡_, refl}}
-use Prim.Native.Nat.{{ℕ}}
-use lib.Dec.{{eqb}}
-use Rattle·integers.specs.Lists.{{all}}
-use Rattle·integers.specs.Root.{{root, binaryDigits}}
-use Rattle·trials·specs.specs.Opened.{{opened}}
+use Rattle.std.specs.Prelude.{{true, ◌&&◌, List, [], ◌∷◌, ◌≡◌, refl, ℕ, eqb}}
+use Rattle.integers.specs.Lists.{{all}}
+use Rattle.integers.specs.Root.{{root, binary_digits}}
+use Rattle.trials.specs.Opened.{{opened}}
 
 -- each with its root and that root's number of binary digits
 abbrev table : List (ℕ × ℕ × ℕ)
@@ -239,9 +234,9 @@ table =
     {rows}
     ∷ []
 
-pub all-right : all (λ row. eqb (root (row .0)) (row .1) && eqb (binaryDigits (root (row .0))) (row .2)) table ≡ true
+pub all_right : all (λ row. eqb (root row.0) row.1 && eqb (binary_digits (root row.0)) row.2) table ≡ true
 unfolding opened
-all-right = refl
+all_right = refl
 ''')
     print(f'Roots: {len(found)}')
 

@@ -40,7 +40,7 @@ def program_path(arguments, name):
     folder = arguments.programs or os.environ.get("FLARECOMB_PROGRAMS")
     path = (pathlib.Path(folder) if folder else pathlib.Path(__file__).resolve().parents[2] / "target" / "bin") / name
     if not path.is_file():
-        raise CouldNotRun(f"the program {path} is missing; 'rt check study archive_check' builds it, and --programs names its folder")
+        raise CouldNotRun(f"the program {path} is missing; 'bash tools/build.sh study archive_check' builds it, and --programs names its folder")
     return path
 
 

@@ -10,7 +10,7 @@ PROGRAMS = pathlib.Path(os.environ.get("FLARECOMB_PROGRAMS") or REPOSITORY / "ta
 
 needs_programs = unittest.skipUnless(
     (PROGRAMS / "study").is_file() and (PROGRAMS / "archive_check").is_file(),
-    f"the proved programs are not in {PROGRAMS}: 'rt check study archive_check' builds them",
+    f"the proved programs are not in {PROGRAMS}: 'bash tools/build.sh study archive_check' builds them",
 )
 
 

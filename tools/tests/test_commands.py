@@ -102,7 +102,7 @@ class WithStandIn(unittest.TestCase):
         self.assertFalse(os.path.isfile("/dev/null"))
 
     def test_words_on_the_programs_standard_error(self):
-        self.program_writes(REPORT, b"standard output: No space left on device\n")
+        self.program_writes(REPORT, b"standard output: No space left on device (os error 28)\n")
         ran = self.run_study()
         self.assertEqual((2, REPORT), (ran.returncode, ran.stdout))
         self.assertIn(b"No space left on device", ran.stderr)
