@@ -1,4 +1,4 @@
-// The study and the check for C. specs/Words.antt says what they answer, specs/WordLaws.antt that each answer fits and can be taken apart.
+// The study and the check for C. specs/Words.antt says what they answer, proofs/WordLaws.antt that each answer fits and can be taken apart.
 #![tactic(auto)]
 
 ghost use Rattle.std.specs.Prelude.{◌≡◌, ◌<◌, ◌^◌, length};

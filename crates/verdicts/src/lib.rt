@@ -1,4 +1,4 @@
-// What the check answers (specs/Check.antt), which row of a report has a fault (specs/ReportFaults.antt), and what follows from a pass (specs/Demand.antt).
+// What the check answers (specs/Check.antt), which row of a report has a fault (specs/ReportFaults.antt), and what follows from a pass (proofs/Demand.antt).
 #![tactic(auto)]
 
 use answers::Refusal;
