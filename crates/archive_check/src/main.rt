@@ -9,11 +9,11 @@ fn main(rt: HostRuntime) {
     let mut feeder = [0u8; 65537];
     let mut report = [0u8; 65537];
     let mut out = [0u8; 4096];
-    let first = read_argument(&rt, 1, "usage: archive_check FEEDER REPORT", &mut feeder);
+    let first = read_argument(&rt, 1, b"usage: archive_check FEEDER REPORT", &mut feeder);
     if first.failed {
         return;
     }
-    let second = read_argument(&rt, 2, "usage: archive_check FEEDER REPORT", &mut report);
+    let second = read_argument(&rt, 2, b"usage: archive_check FEEDER REPORT", &mut report);
     if second.failed {
         return;
     }

@@ -9,7 +9,7 @@ use archive::unpack;
 use integers::whole;
 use std::fs::Files;
 use std::io::Read;
-use std::{fs, io};
+use std::{fs, io, str};
 use text::Field;
 use text::read::read_number;
 
@@ -41,7 +41,11 @@ fn unpack_file(rt: &impl Files, name: &str, text: &mut [u8]) -> io::Result<usize
 }
 
 // The cases of a file, unpacked. The answer is how many bytes they have. A file that cannot be read is named on standard error, and has none.
-pub fn read_cases(rt: &(impl Files + Eprint), name: &str, text: &mut [u8]) -> usize {
+pub fn read_cases(rt: &(impl Files + Eprint), name: &[u8], text: &mut [u8]) -> usize {
+    let Ok(name) = str::from_utf8(name) else {
+        let _ = eprintln!(rt; "a file's name is not UTF-8");
+        return 0;
+    };
     match unpack_file(rt, name, text) {
         Ok(size) => size,
         Err(why) => {

@@ -120,11 +120,19 @@ fn read_file(rt: &(impl Files + Eprint), path: &str, file: &mut [u8]) -> Input
     }
 }
 
+// The words that bytes spell in UTF-8.
+fn words_of(bytes: &[u8]) -> &str {
+    match str::from_utf8(bytes) {
+        Ok(words) => words,
+        Err(_) => "words that are not UTF-8",
+    }
+}
+
 // The file that an argument names. Where there is no such argument, the usage is told.
 pub fn read_argument(
     rt: &(impl Env + Files + Eprint),
     index: usize,
-    usage: &str,
+    usage: &[u8],
     file: &mut [u8],
 ) -> Input
     requires { length file.old ≡ 65537 }
@@ -133,7 +141,7 @@ pub fn read_argument(
 {
     let mut path = [0u8; 4096];
     let Ok(length) = rt.arg(index, &mut path) else {
-        return unread(rt, usage, Error::from(ErrorKind::InvalidInput));
+        return unread(rt, words_of(usage), Error::from(ErrorKind::InvalidInput));
     };
     let Ok(name) = str::from_utf8(&path[..length]) else {
         return unread(rt, "a file's name", Error::from(ErrorKind::InvalidFilename));

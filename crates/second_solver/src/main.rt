@@ -339,7 +339,7 @@ fn try_all(rt: &impl Print, text: &[u8]) {
 
 fn main(rt: HostRuntime) {
     let mut text = text_space();
-    let size = read_cases(&rt, "cases", &mut text);
+    let size = read_cases(&rt, b"cases", &mut text);
     let n = used(size, &text);
     try_all(&rt, &text[..n]);
 }

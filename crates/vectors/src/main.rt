@@ -183,7 +183,7 @@ fn try_all(rt: &impl Print, kind: Kind, text: &[u8]) {
 fn try_file(rt: &(impl Files + Print + Eprint), kind: Kind, name: &str) {
     let _ = println!(rt; "{name}");
     let mut text = text_space();
-    let size = read_cases(rt, name, &mut text);
+    let size = read_cases(rt, name.as_bytes(), &mut text);
     let n = used(size, &text);
     try_all(rt, kind, &text[..n]);
 }
