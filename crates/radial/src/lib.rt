@@ -24,7 +24,8 @@ fn place(
     requires placed { Placed (branches_of branches.now) rows (made len order.old rank.old) }
     ensures { Stepped (branches_of branches.now) rows k (made len order.old rank.old) (made result order.new rank.new) }
 {
-    if rank[k] != 0 {
+    let placed = rank[k] != 0;
+    if placed {
         return len;
     }
     let above = from_at(branches, k);

@@ -214,7 +214,8 @@ pub fn read_into(
     requires loads_value { loads.old ≡ replicate 300 (no_numbers 6) }
     ensures { ReadInto (reading file.now) result (network_of result.settings nodes.new branches.new loads.new order.new rank.new) }
 {
-    if 65536 < file.len() {
+    let long = 65536 < file.len();
+    if long {
         return refuse(Refusal::TooLong);
     }
     let mut froms = [0u64; 201];

@@ -20,7 +20,8 @@ pub fn check(feeder: &[u8], report: &[u8]) -> Verdict
     ensures told { CheckTold (checked feeder.now report.now) result }
     ensures first { CheckPoints feeder.now report.now result }
 {
-    if 65536 < report.len() {
+    let long = 65536 < report.len();
+    if long {
         return Verdict::Fail(Refusal::TooLong);
     }
     let mut nodes = [0u64; 201];

@@ -100,7 +100,8 @@ pub fn read_tap_table(part: &[u8], count: usize, names: &mut Names, taps: &mut T
         at = row.next;
         k += 1;
     }
-    if at != part.len() {
+    let behind = at != part.len();
+    if behind {
         return false;
     }
     true

@@ -38,7 +38,8 @@ fn wants_up(x: TapChanger, r: Pair) -> bool
 {
     let twice = whole::mul(2, x.level);
     let bracket = whole::sub(twice, x.band);
-    if bracket < 0 {
+    let negative = bracket < 0;
+    if negative {
         return false;
     }
     let m = pairs::square(r);

@@ -23,7 +23,8 @@ fn read_digits(s: &[u8], from: usize, first: u64, sep: u8) -> Field
         if 57 < b {
             return Field::NotNumber;
         }
-        if v == 0 {
+        let leading = v == 0;
+        if leading {
             return Field::NotNumber;
         }
         if 100000000000000000 <= v {

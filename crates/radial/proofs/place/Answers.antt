@@ -7,16 +7,16 @@ use Rattle.radial.specs.Radial.{parent_in}
 use Rattle.radial.proofs.Placing.{room, step_left, step-placed}
 use native.Mathlib.Omega.{arith}
 use Rattle.radial.proofs.place.Goals as goal
-use Rattle.radial.proofs.place.Goals.{After-from_at-above, Else-rank-k-ne0}
+use Rattle.radial.proofs.place.Goals.{After-from_at-above, Else-placed}
 
 -- the from-node and the next place have room in the arrays
 above : (c : After-from_at-above) → c.from_at-above.result < 201
 above c =
     omega (arith, c.from_at-above.ensures, c.requires.placed.linked.from c.args.k c.requires.k_bound, c.requires.placed.linked.few)
 
-free : (c : Else-rank-k-ne0) → c.args.len < 201
+free : (c : Else-placed) → c.args.len < 201
 free c =
-    omega (arith, room _ _ _ c.args.k c.requires.placed c.requires.k_bound c.if-rank-k-ne0.false, c.requires.placed.linked.few)
+    omega (arith, room _ _ _ c.args.k c.requires.placed c.requires.k_bound c.if-placed.false, c.requires.placed.linked.few)
 
 -- the from-node has the rank that is read
 same : (c : After-from_at-above) → let a = c.args in get_or a.rank.now (parent_in (branches_of a.branches.now) a.k) 0 ≡ get_or a.rank.now c.from_at-above.result 0
@@ -33,8 +33,8 @@ returns-then-rank-above-eq0 c =
     step_left _ _ _ c.args.k c.requires.placed (λ _. same (goal.at.returns-then-rank-above-eq0 c).After-from_at-above ∙ c.if-rank-above-eq0.true)
 
 pub bounds-order-len : goal.bounds-order-len
-bounds-order-len c = omega (arith, free (goal.at.bounds-order-len c).Else-rank-k-ne0)
+bounds-order-len c = omega (arith, free (goal.at.bounds-order-len c).Else-placed)
 
 pub returns : goal.returns
 returns c =
-    step-placed _ _ _ c.args.k c.requires.placed c.requires.k_bound c.if-rank-k-ne0.false (λ e. c.if-rank-above-eq0.false (sym (same (goal.at.returns c).After-from_at-above) ∙ e))
+    step-placed _ _ _ c.args.k c.requires.placed c.requires.k_bound c.if-placed.false (λ e. c.if-rank-above-eq0.false (sym (same (goal.at.returns c).After-from_at-above) ∙ e))

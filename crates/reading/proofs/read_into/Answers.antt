@@ -15,10 +15,10 @@ use borrow.Author.Tests.{le-ltb, lt-ltb}
 use native.Mathlib.Omega.{arith}
 use borrow.Author.Rules.{rules}
 use Rattle.reading.proofs.read_into.Goals as goal
-use Rattle.reading.proofs.read_into.Goals.{After-first_out-out, After-read_layout-t, Else-file-gt65536}
+use Rattle.reading.proofs.read_into.Goals.{After-first_out-out, After-read_layout-t, Else-long}
 
-abbrev short : After-read_layout-t → Else-file-gt65536
-short c = (goal.at.After-read_layout-t c).Else-file-gt65536
+abbrev short : After-read_layout-t → Else-long
+short c = (goal.at.After-read_layout-t c).Else-long
 
 -- the rows of a file whose layout is good
 abbrev Found : After-read_layout-t → Type 0
@@ -39,8 +39,8 @@ rows c = found (table c) c.in_default.is
 out-is : (c : After-first_out-out) → c.first_out-out.result ≡ out_of_limit (rows c).rows
 out-is c = let h = (rows c).held in c.first_out-out.ensures (rows c).rows h.given h.branches h.rows h.loads h.count
 
-pub returns-then-file-gt65536 : goal.returns-then-file-gt65536
-returns-then-file-gt65536 c = into-refused _ (read-long _ (lt-ltb _ _ c.if-file-gt65536.true)) c.refuse.ensures
+pub returns-then-long : goal.returns-then-long
+returns-then-long c = into-refused _ (read-long _ (lt-ltb _ _ c.if-long.true)) c.refuse.ensures
 
 pub read_layout-t-requires : goal.read_layout-t-requires
 read_layout-t-requires c =
@@ -49,18 +49,18 @@ read_layout-t-requires c =
 
 pub returns-in-Bad : goal.returns-in-Bad
 returns-in-Bad c =
-    into-refused _ (read-bad _ _ (le-ltb _ _ (short (goal.at.returns-in-Bad c).After-read_layout-t).if-file-gt65536.false) (unlaid _ c.read_layout-t.ensures.value c.in-Bad.is)) c.refuse-in-Bad.ensures
+    into-refused _ (read-bad _ _ (le-ltb _ _ (short (goal.at.returns-in-Bad c).After-read_layout-t).if-long.false) (unlaid _ c.read_layout-t.ensures.value c.in-Bad.is)) c.refuse-in-Bad.ensures
 
 pub first_out-out-requires : goal.first_out-out-requires
 first_out-out-requires c =
     let few = c.read_layout-t.ensures.few in
-    record { rows_bound = omega (arith, few, (short (goal.at.first_out-out-requires c).After-read_layout-t).if-file-gt65536.false); count_bound = omega (arith, few, (short (goal.at.first_out-out-requires c).After-read_layout-t).if-file-gt65536.false) }
+    record { rows_bound = omega (arith, few, (short (goal.at.first_out-out-requires c).After-read_layout-t).if-long.false); count_bound = omega (arith, few, (short (goal.at.first_out-out-requires c).After-read_layout-t).if-long.false) }
 
 pub returns-in-At : goal.returns-in-At
 unfolding from11
 returns-in-At c =
     let r = (rows (goal.at.returns-in-At c).After-first_out-out).rows in
-    into-same (read-laid _ r (le-ltb _ _ (short (table (goal.at.returns-in-At c).After-first_out-out)).if-file-gt65536.false) (rows (goal.at.returns-in-At c).After-first_out-out).whole)
+    into-same (read-laid _ r (le-ltb _ _ (short (table (goal.at.returns-in-At c).After-first_out-out)).if-long.false) (rows (goal.at.returns-in-At c).After-first_out-out).whole)
     (into-refused _ (stopped OutOfLimit (from20 r) (sym (out-is (goal.at.returns-in-At c).After-first_out-out) ∙ c.in-At.is)) c.refuse-in-At.ensures)
 
 pub read_names-requires : goal.read_names-requires
@@ -76,5 +76,5 @@ pub returns : goal.returns
 unfolding from11
 returns c =
     let r = (rows (goal.at.returns c).After-first_out-out).rows in
-    into-same (read-laid _ r (le-ltb _ _ (short (table (goal.at.returns c).After-first_out-out)).if-file-gt65536.false) (rows (goal.at.returns c).After-first_out-out).whole)
+    into-same (read-laid _ r (le-ltb _ _ (short (table (goal.at.returns c).After-first_out-out)).if-long.false) (rows (goal.at.returns c).After-first_out-out).whole)
     (into-same (goes_on OutOfLimit (from20 r) (sym (out-is (goal.at.returns c).After-first_out-out) ∙ c.in_default-out.is)) (c.read_names.ensures r (laid-rows (rows (goal.at.returns c).After-first_out-out).held c.settings_of-settings.ensures)))

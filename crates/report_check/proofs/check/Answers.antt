@@ -22,16 +22,16 @@ read : (c : In_default) → ReadKnown (start (goal.at.In_default c).After-read_i
 read c =
     read-good (start (goal.at.In_default c).After-read_into-f).args.feeder.now c.read_into-f.result (network (goal.at.In_default c).After-read_into-f) c.read_into-f.ensures c.in_default.is
 
-pub returns-then-report-gt65536 : goal.returns-then-report-gt65536
-returns-then-report-gt65536 c =
+pub returns-then-long : goal.returns-then-long
+returns-then-long c =
     let a = c.args in
-    let p = promised a.feeder.now a.report.now (check-long a.feeder.now a.report.now (lt-ltb _ _ c.if-report-gt65536.true)) in
+    let p = promised a.feeder.now a.report.now (check-long a.feeder.now a.report.now (lt-ltb _ _ c.if-long.true)) in
     record { answer = p.0; account = p.1.0; told = p.1.1.0; first = p.1.1.1 }
 
 pub returns-in-Refused : goal.returns-in-Refused
 returns-in-Refused c =
     let a = (start (goal.at.returns-in-Refused c).After-read_into-f).args in
-    let p = promised a.feeder.now a.report.now (check-feeder a.feeder.now a.report.now (le-ltb _ _ c.if-report-gt65536.false) _ (read-refused (reading a.feeder.now) c.read_into-f.result (network (goal.at.returns-in-Refused c).After-read_into-f) _ c.read_into-f.ensures c.in-Refused.is)) in
+    let p = promised a.feeder.now a.report.now (check-feeder a.feeder.now a.report.now (le-ltb _ _ c.if-long.false) _ (read-refused (reading a.feeder.now) c.read_into-f.result (network (goal.at.returns-in-Refused c).After-read_into-f) _ c.read_into-f.ensures c.in-Refused.is)) in
     record { answer = p.0; account = p.1.0; told = p.1.1.0; first = p.1.1.1 }
 
 pub check_text-requires : goal.check_text-requires
@@ -41,5 +41,5 @@ pub returns : goal.returns
 returns c =
     let a = (start (goal.at.returns c).After-read_into-f).args in
     let w = read (goal.at.returns c).In_default in
-    let p = promised a.feeder.now a.report.now (check-read a.feeder.now a.report.now (le-ltb _ _ c.if-report-gt65536.false) w.feeder w.whole (c.check_text.ensures w.feeder w.held)) in
+    let p = promised a.feeder.now a.report.now (check-read a.feeder.now a.report.now (le-ltb _ _ c.if-long.false) w.feeder w.whole (c.check_text.ensures w.feeder w.held)) in
     record { answer = p.0; account = p.1.0; told = p.1.1.0; first = p.1.1.1 }

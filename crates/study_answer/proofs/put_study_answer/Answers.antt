@@ -7,8 +7,7 @@ use Rattle.study_answer.proofs.put_study_answer.Goals as goal
 
 pub returns-in-Written : goal.returns-in-Written
 returns-in-Written c =
-    let e : study_of c.args.feeder.now (length c.args.out.now) ≡ Written c.in-Written.length c.in-Written.field-1 = sym c.study_feeder-answer.ensures.answer ∙ c.in-Written.is in
-    study-written c.args.feeder.now c.args.out.now c.study_feeder-answer.new.out c.in-Written.length c.in-Written.field-1 e c.study_feeder-answer.ensures.buffer
+    study-written c.args.feeder.now c.args.out.now c.study_feeder-answer.new.out _ _ (sym c.study_feeder-answer.ensures.answer ∙ c.in-Written.is) c.study_feeder-answer.ensures.buffer
 
 pub returns-in-NoReport : goal.returns-in-NoReport
 returns-in-NoReport c =

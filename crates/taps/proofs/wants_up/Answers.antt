@@ -50,11 +50,11 @@ least : (b : ℤ) → lt_z b (pos 0) ≡ false → le_z (pos 0) b ≡ true
 least (pos n) e = le-leb 0 n (omega arith)
 least (negsuc n) e = clash true refl e
 
-pub returns-then-bracket-lt0 : goal.returns-then-bracket-lt0
+pub returns-then-negative : goal.returns-then-negative
 unfolding wants_up
-returns-then-bracket-lt0 c =
-    let t : le_z (pos 0) c.sub-bracket.result ≡ false = below c.sub-bracket.result (rw (to_z-of_z c.sub-bracket.ensures.fits) at c.if-bracket-lt0.true) in
-    simp (rw (bracket (goal.at.returns-then-bracket-lt0 c).After-sub-bracket) at t)
+returns-then-negative c =
+    let t : le_z (pos 0) c.sub-bracket.result ≡ false = below c.sub-bracket.result (rw (to_z-of_z c.sub-bracket.ensures.fits) at c.if-negative.true) in
+    simp (rw (bracket (goal.at.returns-then-negative c).After-sub-bracket) at t)
 
 -- the sides of the test
 left : (c : After-size-k) → 4 * c.square-m.result ≡ 4 * square c.args.r
@@ -75,6 +75,6 @@ overflow_mul-result-2 c = record { fits = omega (arith, most c) }
 pub returns : goal.returns
 unfolding wants_up
 returns c =
-    let t : le_z (pos 0) c.sub-bracket.result ≡ true = least c.sub-bracket.result (rw (to_z-of_z c.sub-bracket.ensures.fits) at c.if-bracket-lt0.false) in
+    let t : le_z (pos 0) c.sub-bracket.result ≡ true = least c.sub-bracket.result (rw (to_z-of_z c.sub-bracket.ensures.fits) at c.if-negative.false) in
     let e = right c ∙ ap nat_abs (bracket (goal.at.returns c).After-sub-bracket) in
     simp (rw (bracket (goal.at.returns c).After-sub-bracket) at t) (λ i. ltb (left c i) (e i * e i))

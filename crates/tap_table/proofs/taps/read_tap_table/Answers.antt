@@ -30,8 +30,8 @@ loop-k-smaller c = omega (arith, c.loop-k-test.true)
 pub loop-k-preserved : goal.loop-k-preserved
 loop-k-preserved c = taps-next _ _ _ _ _ _ c.loop-k.invariant _ _ c.requires.count_bound c.loop-k-test.true (c.read_tap_row-row.ensures.held (not-false _ c.if-not-row.false)) c.store_taps.ensures
 
-pub returns-then-at-part : goal.returns-then-at-part
-returns-then-at-part c = refused-answer (taps-more _ _ _ _ _ _ c.loop-k.invariant (named (goal.at.returns-then-at-part c).Else-not-stands) c.loop-k-test.false c.if-at-part.true) refl
+pub returns-then-behind : goal.returns-then-behind
+returns-then-behind c = refused-answer (taps-more _ _ _ _ _ _ c.loop-k.invariant (named (goal.at.returns-then-behind c).Else-not-stands) c.loop-k-test.false c.if-behind.true) refl
 
 pub returns : goal.returns
-returns c = held-answer (taps-whole _ _ _ _ _ _ c.loop-k.invariant (named (goal.at.returns c).Else-not-stands) c.loop-k-test.false c.if-at-part.false) refl
+returns c = held-answer (taps-whole _ _ _ _ _ _ c.loop-k.invariant (named (goal.at.returns c).Else-not-stands) c.loop-k-test.false c.if-behind.false) refl

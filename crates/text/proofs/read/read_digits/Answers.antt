@@ -34,14 +34,14 @@ returns-then-b-lt48 c = sym (turn (goal.at.returns-then-b-lt48 c).In-loop-i ∙ 
 pub returns-then-b-gt57 : goal.returns-then-b-gt57
 returns-then-b-gt57 c = sym (turn (goal.at.returns-then-b-gt57 c).In-loop-i ∙ simp (ne_eqb _ _ c.if-b-sep.false, le-leb _ _ c.if-b-lt48.false, lt-leb _ _ c.if-b-gt57.true))
 
-pub returns-then-v-eq0 : goal.returns-then-v-eq0
-returns-then-v-eq0 c = sym (turn (goal.at.returns-then-v-eq0 c).In-loop-i ∙ simp (ne_eqb _ _ c.if-b-sep.false, le-leb _ _ c.if-b-lt48.false, le-leb _ _ c.if-b-gt57.false, c.if-v-eq0.true))
+pub returns-then-leading : goal.returns-then-leading
+returns-then-leading c = sym (turn (goal.at.returns-then-leading c).In-loop-i ∙ simp (ne_eqb _ _ c.if-b-sep.false, le-leb _ _ c.if-b-lt48.false, le-leb _ _ c.if-b-gt57.false, c.if-leading.true))
 
 pub returns-then-v-ge100000000000000000 : goal.returns-then-v-ge100000000000000000
-returns-then-v-ge100000000000000000 c = sym (turn (goal.at.returns-then-v-ge100000000000000000 c).In-loop-i ∙ simp (ne_eqb _ _ c.if-b-sep.false, le-leb _ _ c.if-b-lt48.false, le-leb _ _ c.if-b-gt57.false, lt-ltb _ _ (pos_of_ne-zero c.if-v-eq0.false), le-ltb _ _ c.if-v-ge100000000000000000.true))
+returns-then-v-ge100000000000000000 c = sym (turn (goal.at.returns-then-v-ge100000000000000000 c).In-loop-i ∙ simp (ne_eqb _ _ c.if-b-sep.false, le-leb _ _ c.if-b-lt48.false, le-leb _ _ c.if-b-gt57.false, lt-ltb _ _ (pos_of_ne-zero c.if-leading.false), le-ltb _ _ c.if-v-ge100000000000000000.true))
 
 pub loop-i-preserved : goal.loop-i-preserved
-loop-i-preserved c = (search rules, turn (goal.at.loop-i-preserved c).In-loop-i ∙ simp (ne_eqb _ _ c.if-b-sep.false, le-leb _ _ c.if-b-lt48.false, le-leb _ _ c.if-b-gt57.false, lt-ltb _ _ (pos_of_ne-zero c.if-v-eq0.false), lt-ltb _ _ c.if-v-ge100000000000000000.false))
+loop-i-preserved c = (search rules, turn (goal.at.loop-i-preserved c).In-loop-i ∙ simp (ne_eqb _ _ c.if-b-sep.false, le-leb _ _ c.if-b-lt48.false, le-leb _ _ c.if-b-gt57.false, lt-ltb _ _ (pos_of_ne-zero c.if-leading.false), lt-ltb _ _ c.if-v-ge100000000000000000.false))
 
 pub returns : goal.returns
 returns c = sym (c.loop-i.invariant.1 ∙ more-end _ _ _ _ c.loop-i-test.false)
