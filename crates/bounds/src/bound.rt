@@ -27,7 +27,7 @@ use floats::phasor::{
 use floats::solver::{load_count, low, on_phases, place, sweep, voltage_across};
 
 // Whether there are bounds, and what is added to those on the voltages for the last sweep's movement.
-#[derive(Drop)]
+#[derive(Clone, Copy)]
 pub struct Bounds {
     pub found: bool,
     pub moved: f64,

@@ -56,7 +56,7 @@ pub fn read_cases(rt: &(impl Files + Eprint), name: &[u8], text: &mut [u8]) -> u
 }
 
 // A number and the place behind its separator. Where no number stands, that is 0 and the text's end.
-#[derive(Drop)]
+#[derive(Clone, Copy)]
 pub struct Count {
     pub value: usize,
     pub next: usize,

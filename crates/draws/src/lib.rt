@@ -18,7 +18,7 @@ use integers::{Pair, pairs};
 use loads::Drawn;
 
 // ZeroVoltage: a row needs a voltage and has none, document 01's refusal 30. Beyond: none does, and a row's current is beyond its limit, refusal 31.
-#[derive(Drop)]
+#[derive(Clone, Copy)]
 pub enum State {
     Fine,
     Beyond,
@@ -26,14 +26,14 @@ pub enum State {
 }
 
 // The rows' state, and, where it is Fine, the power drawn.
-#[derive(Drop)]
+#[derive(Clone, Copy)]
 pub struct Draws {
     pub state: State,
     pub drawn: Pair,
 }
 
 // One row's state, and its current, 0 where it is refused.
-#[derive(Drop)]
+#[derive(Clone, Copy)]
 struct Row {
     state: State,
     current: Pair,

@@ -127,7 +127,7 @@ pub struct Load {
 }
 
 // A branch row as it stands in the file: names packed into numbers, and the values of p1 to p12.
-#[derive(Drop)]
+#[derive(Clone, Copy)]
 pub struct BranchRow {
     pub from: u64,
     pub to: u64,
@@ -137,7 +137,7 @@ pub struct BranchRow {
 }
 
 // A load row as it stands in the file.
-#[derive(Drop)]
+#[derive(Clone, Copy)]
 pub struct LoadRow {
     pub node: u64,
     pub phase: Terminals,
@@ -164,7 +164,7 @@ pub enum Column {
 
 // A feeder in memory. Node 0 is the source and node k the "to" of branch row k, so place 0 of `branches` is unused.
 // `order` has the nodes so that each comes after the one that feeds it, and `rank` each node's place there, counted from 1.
-#[derive(Drop)]
+#[derive(Clone, Copy)]
 pub struct Network {
     pub source: Three,
     pub tol: u64,

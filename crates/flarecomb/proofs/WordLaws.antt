@@ -7,7 +7,7 @@ use Rattle.answers.specs.declared.Refusal.TheVariants.{BufferShort, CurrentBeyon
 use Rattle.flarecomb.specs.CheckValues.{check-value}
 use Rattle.flarecomb.specs.StudyValues.{study-length, study-sweeps, study-value}
 use Rattle.flarecomb.specs.Words.{CheckWord, StudyWord, word, word_of_check, word_of_study}
-use Rattle.flarecomb.proofs.Apart.{Apart, apart}
+use Rattle.flarecomb.specs.Apart.{Apart, apart}
 use Rattle.ladder.specs.Study.{fitted, study_number, study_of, study_sweeps, study_value}
 use Rattle.ladder.proofs.StudyLaws.{study-told}
 use Rattle.ladder.specs.declared.Study.{Study}

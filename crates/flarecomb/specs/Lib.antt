@@ -5,3 +5,4 @@ pub mod Values
 pub mod ReadingValues
 pub mod StudyValues
 pub mod CheckValues
+pub mod Apart

@@ -26,7 +26,7 @@ pub struct Impedances {
 }
 
 // `voltage` is A, `drop` B, and `current` d. A row of A is 0 for a phase that is absent at m, so its voltage there is 0.
-#[derive(Drop)]
+#[derive(Clone, Copy)]
 pub struct Component {
     pub voltage: Ratios,
     pub drop: Impedances,

@@ -10,7 +10,7 @@ use arrays::{Branches, Loads, Places, Settings, branch_at, load_at};
 use feeder::{Load, LoadKind, Terminals};
 
 // Whether the voltages settled, and the number of sweeps made.
-#[derive(Drop)]
+#[derive(Clone, Copy)]
 pub struct Solution {
     pub settled: bool,
     pub sweeps: usize,

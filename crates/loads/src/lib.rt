@@ -15,7 +15,7 @@ use feeder::{Load, LoadKind, Three, signs_of};
 use integers::{Pair, pairs, whole};
 
 // What a load row draws: a current, or none, by document 01's refusals 30 and 31.
-#[derive(Drop)]
+#[derive(Clone, Copy)]
 pub enum Drawn {
     Taken(Pair),
     AtZeroVoltage,

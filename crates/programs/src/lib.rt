@@ -15,7 +15,7 @@ use std::{fs, io, str};
 
 // What was read: how many bytes stand at the start of the room, and why no more was read: the room is full, or a read failed; else the input ended. A room
 // has one byte more than 65,536, which is enough for a longer file to meet refusal 9.
-#[derive(Drop)]
+#[derive(Clone, Copy)]
 pub struct Input {
     pub size: usize,
     pub full: bool,

@@ -23,21 +23,21 @@ use radial::{first_not_reached, order_of};
 use tables::{LayoutEnd, read_layout};
 
 // Whether the file is a feeder.
-#[derive(Drop)]
+#[derive(Clone, Copy)]
 pub enum ReadAnswer {
     Good,
     Refused(Refusal),
 }
 
 // The answer, and where it is good what the feeder has besides its arrays.
-#[derive(Drop)]
+#[derive(Clone, Copy)]
 pub struct Read {
     pub answer: ReadAnswer,
     pub settings: Settings,
 }
 
 // The answer, and the feeder where it is good.
-#[derive(Drop)]
+#[derive(Clone, Copy)]
 pub struct Reading {
     pub answer: ReadAnswer,
     pub network: Network,

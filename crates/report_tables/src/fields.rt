@@ -12,7 +12,7 @@ use text::read::read_name;
 
 // Where `ok`, a row and the place behind it: its names, its voltages or currents, the loss behind those, and whether
 // the voltages or currents are in their limit. A node row has one name and no loss.
-#[derive(Drop)]
+#[derive(Clone, Copy)]
 pub struct RowRead {
     pub ok: bool,
     pub next: usize,

@@ -8,7 +8,7 @@ use arrays::{Names, Pairs, Threes, put_pair, put_three};
 use text::lines::{stands, stands_empty};
 
 // Where `ok`, the place behind a table, and whether its voltages or currents are in their limit.
-#[derive(Drop)]
+#[derive(Clone, Copy)]
 pub struct Table {
     pub ok: bool,
     pub next: usize,

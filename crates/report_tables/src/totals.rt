@@ -5,7 +5,7 @@ ghost use Rattle.report_tables.specs.TablesRead.{TotalsAre};
 use text::lines::{Next, read_numbers, stands};
 
 // Where `ok`, the row's numbers, the sweeps and six totals, and the place behind it.
-#[derive(Drop)]
+#[derive(Clone, Copy)]
 pub struct Totals {
     pub ok: bool,
     pub next: usize,

@@ -12,7 +12,7 @@ use text::lines::{Next, read_numbers};
 use text::read::read_name;
 
 // The place behind a row, where a row stands there, its names, and its numbers as an array of branches has them. The from-node has no number yet.
-#[derive(Drop)]
+#[derive(Clone, Copy)]
 pub struct BranchRead {
     pub end: Next,
     pub from: u64,

@@ -13,7 +13,7 @@ use text::lines::{Next, read_numbers};
 use text::read::read_name;
 
 // The place behind a row, where a row stands there, its node's name, and its numbers as an array of loads has them. The node has no number yet.
-#[derive(Drop)]
+#[derive(Clone, Copy)]
 pub struct LoadRead {
     pub end: Next,
     pub node: u64,

@@ -39,25 +39,25 @@ const I: u64 = 73;
 
 const Z: u64 = 90;
 
-#[derive(Drop)]
+#[derive(Clone, Copy)]
 pub enum PhasesWord {
     Listed(Phases),
     NotListed,
 }
 
-#[derive(Drop)]
+#[derive(Clone, Copy)]
 pub enum KindWord {
     Listed(Kind),
     NotListed,
 }
 
-#[derive(Drop)]
+#[derive(Clone, Copy)]
 pub enum PhaseWord {
     Listed(Terminals),
     NotListed,
 }
 
-#[derive(Drop)]
+#[derive(Clone, Copy)]
 pub enum LoadWord {
     Listed(LoadKind),
     NotListed,

@@ -17,7 +17,7 @@ use integers::Pair;
 use passes::{downward_pass, upward_pass};
 
 // Whether currents were found, or which of document 01's refusals 30, 31 and 32 holds.
-#[derive(Drop)]
+#[derive(Clone, Copy)]
 pub enum Work {
     Fine,
     ZeroVoltage,
@@ -26,7 +26,7 @@ pub enum Work {
 }
 
 // Where the work is fine, the power drawn by the loads.
-#[derive(Drop)]
+#[derive(Clone, Copy)]
 pub struct Worked {
     pub work: Work,
     pub drawn: Pair,

@@ -11,7 +11,7 @@ use rows::branches::read_branch;
 use text::lines::{Next, stands, stands_empty};
 
 // The place behind the table or the line that cannot stand there, and the number of its rows.
-#[derive(Drop)]
+#[derive(Clone, Copy)]
 pub struct BranchTable {
     pub end: TableEnd,
     pub count: usize,

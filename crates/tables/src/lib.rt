@@ -16,21 +16,21 @@ pub mod loads;
 pub mod source;
 
 // The place behind a table, or the line that cannot stand there.
-#[derive(Drop)]
+#[derive(Clone, Copy)]
 pub enum TableEnd {
     At(usize),
     Bad(usize),
 }
 
 // A file with the feeder layout, or the line that refusal 10 returns.
-#[derive(Drop)]
+#[derive(Clone, Copy)]
 pub enum LayoutEnd {
     Good,
     Bad(usize),
 }
 
 // The source row, the number of branch rows and the number of load rows.
-#[derive(Drop)]
+#[derive(Clone, Copy)]
 pub struct Tables {
     pub end: LayoutEnd,
     pub source: u64,

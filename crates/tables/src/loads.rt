@@ -11,7 +11,7 @@ use rows::loads::read_load;
 use text::lines::{Next, stands};
 
 // The place behind the table or the line that cannot stand there, and the number of its rows.
-#[derive(Drop)]
+#[derive(Clone, Copy)]
 pub struct LoadTable {
     pub end: TableEnd,
     pub count: usize,

@@ -9,7 +9,7 @@ use text::lines::{Next, read_numbers, stands, stands_empty};
 use text::read::read_name;
 
 // The place behind the table or the line that cannot stand there, and the row's name and numbers.
-#[derive(Drop)]
+#[derive(Clone, Copy)]
 pub struct SourceTable {
     pub end: TableEnd,
     pub name: u64,

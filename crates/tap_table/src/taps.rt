@@ -18,7 +18,7 @@ use text::read::read_name;
 pub type TapRows = [[i64; 3]; 201];
 
 // Where `ok`, a row and the place behind it: the name and the taps.
-#[derive(Drop)]
+#[derive(Clone, Copy)]
 pub struct TapRow {
     pub ok: bool,
     pub next: usize,

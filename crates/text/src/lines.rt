@@ -9,7 +9,7 @@ use crate::Field;
 use crate::read::read_number;
 
 // The place behind a line's numbers, where they stand there.
-#[derive(Drop)]
+#[derive(Clone, Copy)]
 pub enum Next {
     Behind(usize),
     Bad,

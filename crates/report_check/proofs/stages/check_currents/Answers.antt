@@ -1,4 +1,5 @@
 -- `stages::check_currents` meets its contract: 53, 54, then 55. Assumes nothing.
+use borrow.Author.Rules.{rules}
 use mathlib.Core.Path.{◌∙◌, ◌≡◌, ap, sym}
 use Rattle.answers.specs.Answers.{done, good}
 use Rattle.answers.specs.declared.Refusal.TheVariants.{CurrentDiffers, VoltageOff}
@@ -51,7 +52,7 @@ returns-in-At c = λ f x t e h. fails-at CurrentDiffers (from54 (good done) f x)
 
 pub compare_pass-off-requires : goal.compare_pass-off-requires
 compare_pass-off-requires c =
-    record { ready = ready c.requires.known; comparable = c.requires.comparable; by_index = c.requires.small_currents.branch }
+    record { ready = ready c.requires.known; comparable = record { first = c.requires.comparable.first; each = c.requires.comparable.each; small = search rules }; by_index = c.requires.small_currents.branch }
 
 pub returns-in-At-off : goal.returns-in-At-off
 unfolding from53 from54
