@@ -83,14 +83,14 @@ def theorem(name, case):
     if answer == 'report':
         report = case['written']
         sweeps = tables(report)[2][0][0]
-        said = f"fitted {text(case['feeder'])} {length} ≡ good (record {{ text = {text(report)[1:-1]}; sweeps = {sweeps} }})"
+        said = f"fitted {text(case['feeder'])} {length} ≡ Ok (record {{ text = {text(report)[1:-1]}; sweeps = {sweeps} }})"
     elif answer == 'pass':
-        said = f"check_of {text(case['feeder'])} {text(case['report'])} ≡ Pass"
+        said = f"checked {text(case['feeder'])} {text(case['report'])} ≡ Ok done"
     else:
         value, = case['expected']['values']
         refusal = REFUSALS[number] if number in NO_VALUE else f'({REFUSALS[number]} {value})'
-        said = (f"study_of {text(case['feeder'])} {length} ≡ NoReport {refusal}" if call == 'study' else
-                f"check_of {text(case['feeder'])} {text(case['report'])} ≡ Fail {refusal}")
+        said = (f"study_of {text(case['feeder'])} {length} ≡ Err {refusal}" if call == 'study' else
+                f"checked {text(case['feeder'])} {text(case['report'])} ≡ Err {refusal}")
     return proved(name, case, said)
 
 
@@ -99,10 +99,10 @@ def proved(name, case, said):
     return f"\n-- {about}\n{name} : {said}\nunfolding opened\n{name} = refl\n"
 
 
-USES = [('Rattle.std.specs.Prelude', '◌≡◌ refl pos negsuc'), ('Rattle.answers.specs.Answers', 'good'),
+USES = [('Rattle.std.specs.Prelude', '◌≡◌ refl pos negsuc Ok Err'), ('Rattle.answers.specs.Answers', 'done'),
         ('Rattle.answers.specs.declared.Refusal.TheVariants', ' '.join(REFUSALS.values())), ('Rattle.text.specs.Text', 'bytes'),
-        ('Rattle.ladder.specs.Study', 'fitted study_of'), ('Rattle.ladder.specs.declared.Study.TheVariants', 'NoReport'),
-        ('Rattle.verdicts.specs.Check', 'check_of'), ('Rattle.verdicts.specs.declared.Verdict.TheVariants', 'Pass Fail'),
+        ('Rattle.ladder.specs.Study', 'fitted study_of'),
+        ('Rattle.verdicts.specs.Check', 'checked'),
         ('Rattle.trials.specs.Opened', 'opened account_of')]
 
 
@@ -124,8 +124,8 @@ def opened():
             uses += f"use Rattle.{crate}.specs.{m}.{{{', '.join(found)}}}\n"
             names += found
     open(SPECS + 'Opened.antt', 'w').write(f'''-- Every definition behind the answers on one line: a trial computes them all by `unfolding opened`. Assumes nothing.
-use Rattle.std.specs.Prelude.{{List, ℕ}}
-use Rattle.answers.specs.Answers.{{Outcome, good, ◌>>=◌}}
+use Rattle.std.specs.Prelude.{{List, ℕ, Ok}}
+use Rattle.answers.specs.Answers.{{Outcome, ◌>>=◌}}
 use Rattle.integers.specs.declared.Pair.{{Pair}}
 {uses}
 -- says nothing by itself
@@ -142,7 +142,7 @@ abbrev pub account_of : List ℕ → List ℕ → Outcome Numbers
 account_of s t = do
   f ← reading s
   r ← report_of f t
-  good (record {{ differs = difference (with_reported f r) r; allowed = allowance (with_reported f r) r }})
+  Ok (record {{ differs = difference (with_reported f r) r; allowed = allowance (with_reported f r) r }})
 ''')
 
 
@@ -215,7 +215,7 @@ def account_theorem(name, case):
     differs, allowed = account(case['feeder'], case['report'])
     real, reactive = (f'pos {n}' if n >= 0 else f'negsuc {-n - 1}' for n in differs)
     numbers = f'record {{ differs = record {{ re = {real}; im = {reactive} }}; allowed = {allowed} }}'
-    return proved(name, case, f"account_of {text(case['feeder'])} {text(case['report'])} ≡ good ({numbers})")
+    return proved(name, case, f"account_of {text(case['feeder'])} {text(case['report'])} ≡ Ok ({numbers})")
 
 
 # ---- the whole root

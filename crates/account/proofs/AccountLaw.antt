@@ -14,7 +14,7 @@ use Rattle.feeder.specs.Feeder.{Feeder, abc, branch_at, has, parent, phase_signs
 use Rattle.feeder.proofs.RowFacts.{Sized}
 use Rattle.feeder.specs.declared.Load.{Load}
 use Rattle.feeder.specs.declared.Phase.{Phase}
-use Rattle.feeder.specs.declared.Three.{Three}
+use Rattle.feeder.specs.Phased.{Three}
 use Rattle.integers.specs.ListLaws.{all_map}
 use Rattle.integers.specs.Lists.{count, csum, All}
 use Rattle.integers.proofs.Near.{Near, near-abs, near_add}

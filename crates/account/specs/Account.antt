@@ -1,6 +1,5 @@
 -- Power account (01, and demand 3): a statement about a feeder's and a report's text. Assumes nothing.
-use Rattle.std.specs.Prelude.{cond, List, ◌≡◌, ◌*◌, ◌+◌, ◌≤◌, ℕ, nat_abs, pos, ℤ, get_or}
-use Rattle.answers.specs.Answers.{good}
+use Rattle.std.specs.Prelude.{cond, List, ◌≡◌, ◌*◌, ◌+◌, ◌≤◌, ℕ, nat_abs, pos, ℤ, get_or, Ok}
 use Rattle.equations.specs.Equations.{at, kind_at, load_current, rated, voltage_on, weight, z_of, zero3}
 use Rattle.feeder.specs.Feeder.{Feeder, abc, branch_at, delta, has, parent, reading, rows_of}
 use Rattle.feeder.specs.declared.Device.{Device}
@@ -9,8 +8,7 @@ use Rattle.feeder.specs.declared.Load.{Load}
 use Rattle.feeder.specs.declared.LoadKind.{LoadKind}
 use Rattle.feeder.specs.declared.LoadKind.TheVariants.{Current, Impedance, Power}
 use Rattle.feeder.specs.declared.Phase.{Phase}
-use Rattle.feeder.specs.declared.Phases.{Phases}
-use Rattle.feeder.specs.declared.Three.{Three}
+use Rattle.feeder.specs.Phased.{Phases, Three}
 use Rattle.integers.specs.Lists.{csum, nsum}
 use Rattle.integers.specs.Pairs.{0c, ◌+c◌, ◌-c◌, ◌·*◌, ◌·c◌, abs, rnd_pair, scaled, square}
 use Rattle.integers.specs.declared.Pair.{Pair}
@@ -65,7 +63,7 @@ difference f r = reported_source r -c accounted f r
 pub record PowerAccount (s t : List ℕ) : Type 0 where
   pub feeder : Feeder
   pub report : Reported
-  pub feeder-read : reading s ≡ good feeder
-  pub report-read : report_of feeder t ≡ good report
+  pub feeder-read : reading s ≡ Ok feeder
+  pub report-read : report_of feeder t ≡ Ok report
   pub real : 2 * nat_abs (difference (with_reported feeder report) report).re ≤ allowance (with_reported feeder report) report
   pub reactive : 2 * nat_abs (difference (with_reported feeder report) report).im ≤ allowance (with_reported feeder report) report

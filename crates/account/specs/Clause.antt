@@ -2,11 +2,10 @@
 -- 70 per cent; and the allowance of one line, one regulator, one transformer, one P load and one load between two phases worked by hand. An account that gives
 -- less, another rating of a P row, and an allowance with another value at one of these five, are refused here. The allowance elsewhere, its sum over the rows and
 -- the difference are not: crate trials has their values for whole texts. Assumes nothing.
-use Rattle.std.specs.Prelude.{false, true, List, [], ◌∷◌, ◌≡◌, refl, ◌*◌, ◌<◌, ◌≤◌, ℕ, nat_abs, negsuc, pos, ℤ}
+use Rattle.std.specs.Prelude.{false, true, List, [], ◌∷◌, ◌≡◌, refl, ◌*◌, ◌<◌, ◌≤◌, ℕ, nat_abs, negsuc, pos, ℤ, Ok}
 use Rattle.std.proofs.Common.{◌∙◌, ap, subst, sym}
 use Rattle.account.specs.Account.{PowerAccount, allowance, branch_allowance, difference, load_allowance, over, rating, rating_of}
 use Rattle.answers.specs.AnswerLaws.{same_good}
-use Rattle.answers.specs.Answers.{good}
 use Rattle.equations.specs.Equations.{acts_as, current_at, load_current, mix, rated, voltage_on, weight, zero3}
 use Rattle.equations.proofs.LowVoltage.{acts-high, acts-low, as_impedance, motor}
 use Rattle.feeder.specs.Feeder.{Feeder, no_taps, reading}
@@ -14,9 +13,8 @@ use Rattle.feeder.specs.declared.Connection.TheVariants.{Wye}
 use Rattle.feeder.specs.declared.Device.TheVariants.{Line, Regulator, Transformer}
 use Rattle.feeder.specs.declared.Load.{Load}
 use Rattle.feeder.specs.declared.LoadKind.TheVariants.{Power}
-use Rattle.feeder.specs.declared.Phases.{Phases}
+use Rattle.feeder.specs.Phased.{Phases, Three}
 use Rattle.feeder.specs.declared.Terminals.TheVariants.{AB, OnA}
-use Rattle.feeder.specs.declared.Three.{Three}
 use Rattle.integers.specs.Lists.{csum, nsum}
 use Rattle.integers.specs.Pairs.{0c, ◌+c◌, ◌·*◌, abs, rnd_pair, scaled, square}
 use Rattle.integers.specs.Rounding.{near, rnd}
@@ -24,7 +22,7 @@ use Rattle.integers.specs.declared.Pair.{Pair}
 use Rattle.report.specs.Report.{Reported, report_of, with_reported}
 
 -- ---- the account is one of the very feeder and report that the texts are read as: real and reactive, twice the difference is at most the allowance
-pub of-read : (s t : List ℕ) (f : Feeder) (r : Reported) → reading s ≡ good f → report_of f t ≡ good r → PowerAccount s t
+pub of-read : (s t : List ℕ) (f : Feeder) (r : Reported) → reading s ≡ Ok f → report_of f t ≡ Ok r → PowerAccount s t
     → (2 * nat_abs (difference (with_reported f r) r).re ≤ allowance (with_reported f r) r) × (2 * nat_abs (difference (with_reported f r) r).im ≤ allowance (with_reported f r) r)
 of-read s t f r h k a =
     let same-feeder : a.feeder ≡ f = same_good _ _ (sym a.feeder-read ∙ h) in

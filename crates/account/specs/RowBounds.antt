@@ -19,12 +19,10 @@ use Rattle.feeder.specs.declared.LoadKind.{LoadKind}
 use Rattle.feeder.specs.declared.LoadKind.TheVariants.{Current, Impedance, Power}
 use Rattle.feeder.specs.declared.Phase.{Phase}
 use Rattle.feeder.specs.declared.Phase.TheVariants.{A, B, C}
-use Rattle.feeder.specs.declared.Phases.{Phases}
-use Rattle.feeder.specs.declared.Signs.{Signs}
+use Rattle.feeder.specs.Phased.{Phases, Signs, Three}
 use Rattle.feeder.specs.declared.Terminals.{Terminals}
 use Rattle.feeder.specs.declared.Terminals.TheVariants.{AB, BC, CA, OnA, OnB, OnC}
 use Rattle.feeder.specs.declared.TapChanger.{TapChanger}
-use Rattle.feeder.specs.declared.Three.{Three}
 use Rattle.feeder.specs.declared.Windings.{Windings}
 use Rattle.integers.specs.Bools.{clash}
 use Rattle.integers.specs.Lists.{csum, nsum}

@@ -1,6 +1,6 @@
 -- What the programs write: the text of an answer, and the buffer that it is put into. Assumes nothing.
-use Rattle.std.specs.Prelude.{cond, List, [], ◌++◌, ◌≡◌, ◌≤◌, ℕ, ltb, pos, drop, length, take}
-use Rattle.answers.specs.Answers.{Outcome, good, number_of, refused, value_of}
+use Rattle.std.specs.Prelude.{cond, List, [], ◌++◌, ◌≡◌, ◌≤◌, ℕ, ltb, pos, drop, length, take, Ok, Err}
+use Rattle.answers.specs.Answers.{Outcome, number_of, value_of}
 use Rattle.text.specs.Text.{bytes, decimal}
 
 -- a refusal: "refused NUMBER VALUE" and LF
@@ -9,8 +9,8 @@ refused_line number value = bytes "refused " ++ (decimal (pos number) ++ (bytes 
 
 -- the text of an outcome: a text of its own where it is good, else the refusal's line
 abbrev pub text_told : {X : Type 0} → (X → List ℕ) → Outcome X → List ℕ
-text_told of-good (good x) = of-good x
-text_told of-good (refused r) = refused_line (number_of r) (value_of r)
+text_told of-good (Ok x) = of-good x
+text_told of-good (Err r) = refused_line (number_of r) (value_of r)
 
 -- what is put of a text into n bytes: all of it, or nothing where it is longer
 unfoldable pub whole_or_nothing : ℕ → List ℕ → List ℕ

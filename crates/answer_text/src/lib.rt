@@ -6,7 +6,7 @@ ghost use Rattle.answer_text.specs.AnswerText.{PutAtStart, refused_line};
 ghost use Rattle.answers.specs.Answers.{number_of, value_of};
 ghost use Rattle.text.specs.Promises.{Written};
 
-use answers::{Refusal, number_of, value_of};
+use answers::Refusal;
 use text::write::{digits_width, put_byte, put_bytes, put_digits};
 
 // How many bytes the line of a refusal takes.
@@ -23,17 +23,17 @@ fn put_line(out: &mut [u8], number: usize, value: usize) -> usize
 {
     let words = put_bytes(out, 0, b"refused ");
     let told = put_digits(out, words, number as u64);
-    let blank = put_byte(out, told, 32);
+    let blank = put_byte(out, told, b' ');
     let end = put_digits(out, blank, value as u64);
-    put_byte(out, end, 10)
+    put_byte(out, end, b'\n')
 }
 
 // The line of a refusal at the start of the buffer, where it has room for it. Answers how many bytes were written.
 pub fn put_refusal(out: &mut [u8], x: Refusal) -> usize
     ensures { PutAtStart (refused_line (number_of x) (value_of x)) out.old result out.new }
 {
-    let number = number_of(x);
-    let value = value_of(x);
+    let number = x.number();
+    let value = x.value();
     if out.len() < line_width(number, value) {
         return 0;
     }

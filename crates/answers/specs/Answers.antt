@@ -1,7 +1,5 @@
 -- Refusals (01, 02): the number and the value of each, and what is either worked out or refused. Assumes nothing.
-use Rattle.std.specs.Prelude.{Bool, false, true, ◌≡◌, ℕ}
-use Rattle.answers.specs.declared.Found.{Found}
-use Rattle.answers.specs.declared.Found.TheVariants.{At, Nothing}
+use Rattle.std.specs.Prelude.{Bool, false, true, ◌≡◌, ℕ, Option, Some, None, Result, Ok, Err}
 use Rattle.answers.specs.declared.Refusal.{Refusal}
 use Rattle.answers.specs.declared.Refusal.TheVariants.{BufferShort, CurrentBeyond, CurrentDiffers, Layout, LoadBeyond, NameDiffers, NotReached, NotSettled, NotZero, OutOfLimit, PhaseAbsent, ReportLayout, SecondTo, SourceDiffers, TapDiffers, TapsMoving, TooLong, TotalDiffers, UnknownFrom, VoltageBeyond, VoltageOff, ZeroVoltage}
 
@@ -56,31 +54,33 @@ value_of TotalDiffers = 0
 value_of (TapDiffers n) = n
 
 -- an X, or a refusal; one step after the other, the first refusal being the answer
-pub data Outcome (X : Type 0) : Type 0 where
-  good : X → Outcome X
-  refused : Refusal → Outcome X
+abbrev pub Outcome : Type 0 → Type 0
+Outcome X = Result X Refusal
 
 infixl 20 ◌>>=◌ ◌>>◌
 abbrev pub ◌>>=◌ : {X Y : Type 0} → Outcome X → (X → Outcome Y) → Outcome Y
-good x >>= k = k x
-refused r >>= k = refused r
+Ok x >>= k = k x
+Err r >>= k = Err r
 
-pub data Done : Type 0 where
-  done : Done
+abbrev pub Done : Type 0
+Done = Unit {0}
+
+abbrev pub done : Done
+done = tt
 
 abbrev pub ◌>>◌ : {Y : Type 0} → Outcome Done → Outcome Y → Outcome Y
-good d >> y = y
-refused r >> y = refused r
+Ok d >> y = y
+Err r >> y = Err r
 
 -- "Where an answer is an enum, a definition states this paper's number and values for each of its cases": the number and the value that are told of an
 -- outcome. Number 0 is work that is good, with a value of its own
 abbrev pub number_told : {X : Type 0} → Outcome X → ℕ
-number_told (good x) = 0
-number_told (refused r) = number_of r
+number_told (Ok x) = 0
+number_told (Err r) = number_of r
 
 abbrev pub value_told : {X : Type 0} → (X → ℕ) → Outcome X → ℕ
-value_told of-good (good x) = of-good x
-value_told of-good (refused r) = value_of r
+value_told of-good (Ok x) = of-good x
+value_told of-good (Err r) = value_of r
 
 pub record Told {X : Type 0} (of-good : X → ℕ) (o : Outcome X) (n v : ℕ) : Type 0 where
   pub number : n ≡ number_told o
@@ -88,9 +88,9 @@ pub record Told {X : Type 0} (of-good : X → ℕ) (o : Outcome X) (n v : ℕ) :
 
 -- refused where a test says so; refused at the line that was found
 abbrev pub refuse_if : Bool → Refusal → Outcome Done
-refuse_if true r = refused r
-refuse_if false r = good done
+refuse_if true r = Err r
+refuse_if false r = Ok done
 
-abbrev pub refuse_at : (ℕ → Refusal) → Found → Outcome Done
-refuse_at r (At line) = refused (r line)
-refuse_at r Nothing = good done
+abbrev pub refuse_at : (ℕ → Refusal) → Option ℕ → Outcome Done
+refuse_at r (Some line) = Err (r line)
+refuse_at r None = Ok done

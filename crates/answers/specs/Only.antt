@@ -1,31 +1,29 @@
 -- Every refusal of an outcome has some property P, step by step of the work. Assumes nothing.
-use Rattle.std.specs.Prelude.{Bool, cond, false, true, ◌≡◌, refl, ℕ}
+use Rattle.std.specs.Prelude.{Bool, cond, false, true, ◌≡◌, refl, ℕ, Option, Some, None, Ok, Err}
 use Rattle.std.proofs.Common.{subst, sym}
 use Rattle.answers.specs.AnswerLaws.{not-refused, same-refused}
-use Rattle.answers.specs.Answers.{Done, Outcome, ◌>>=◌, ◌>>◌, done, good, refuse_at, refuse_if, refused}
-use Rattle.answers.specs.declared.Found.{Found}
-use Rattle.answers.specs.declared.Found.TheVariants.{At, Nothing}
+use Rattle.answers.specs.Answers.{Done, Outcome, ◌>>=◌, ◌>>◌, done, refuse_at, refuse_if}
 use Rattle.answers.specs.declared.Refusal.{Refusal}
 
 -- where x is refused, P holds of the refusal
 pub record Only {X : Type 0} (P : Refusal → Type 0) (x : Outcome X) : Type 0 where
-  pub each : (r : Refusal) → x ≡ refused r → P r
+  pub each : (r : Refusal) → x ≡ Err r → P r
 
 module _ {P : Refusal → Type 0} where
-  pub good-only : {X : Type 0} (x : X) → Only P (good x)
+  pub good-only : {X : Type 0} (x : X) → Only P (Ok x)
   good-only x = record { each = λ r e. not-refused r x (sym e) }
 
-  pub refused-only : {X : Type 0} (r : Refusal) → P r → Only {X = X} P (refused r)
+  pub refused-only : {X : Type 0} (r : Refusal) → P r → Only {X = X} P (Err r)
   refused-only r h = record { each = λ q e. subst P (same-refused r q e) h }
 
   -- one step after the other
-  pub then-only : {X Y : Type 0} (x : Outcome X) (k : X → Outcome Y) → Only P x → ((a : X) → x ≡ good a → Only P (k a)) → Only P (x >>= k)
-  then-only (good a) k h w = w a refl
-  then-only (refused r) k h w = refused-only r (h.each r refl)
+  pub then-only : {X Y : Type 0} (x : Outcome X) (k : X → Outcome Y) → Only P x → ((a : X) → x ≡ Ok a → Only P (k a)) → Only P (x >>= k)
+  then-only (Ok a) k h w = w a refl
+  then-only (Err r) k h w = refused-only r (h.each r refl)
 
   pub after-only : {Y : Type 0} (x : Outcome Done) (y : Outcome Y) → Only P x → Only P y → Only P (x >> y)
-  after-only (good d) y h w = w
-  after-only (refused r) y h w = refused-only r (h.each r refl)
+  after-only (Ok d) y h w = w
+  after-only (Err r) y h w = refused-only r (h.each r refl)
 
   pub cond-only : {X : Type 0} (c : Bool) (x y : Outcome X) → Only P x → Only P y → Only P (cond c x y)
   cond-only true x y h w = h
@@ -36,6 +34,6 @@ module _ {P : Refusal → Type 0} where
   if-only true r h = refused-only r h
   if-only false r h = good-only done
 
-  pub at_only : (l : Found) (r : ℕ → Refusal) → ((m : ℕ) → l ≡ At m → P (r m)) → Only P (refuse_at r l)
-  at_only (At m) r h = refused-only (r m) (h m refl)
-  at_only Nothing r h = good-only done
+  pub at_only : (l : Option ℕ) (r : ℕ → Refusal) → ((m : ℕ) → l ≡ Some m → P (r m)) → Only P (refuse_at r l)
+  at_only (Some m) r h = refused-only (r m) (h m refl)
+  at_only None r h = good-only done

@@ -9,16 +9,13 @@ fn main(rt: HostRuntime) {
     let mut feeder = [0u8; 65537];
     let mut report = [0u8; 65537];
     let mut out = [0u8; 4096];
-    let first = read_argument(&rt, 1, b"usage: archive_check FEEDER REPORT", &mut feeder);
-    if first.failed {
+    let usage = b"usage: archive_check FEEDER REPORT";
+    let Some(n) = read_argument(&rt, 1, usage, &mut feeder) else {
         return;
-    }
-    let second = read_argument(&rt, 2, b"usage: archive_check FEEDER REPORT", &mut report);
-    if second.failed {
+    };
+    let Some(m) = read_argument(&rt, 2, usage, &mut report) else {
         return;
-    }
-    let n = first.size;
-    let m = second.size;
+    };
     let length = put_check_answer(&feeder[..n], &report[..m], &mut out);
     print_answer(&rt, &out[..length]);
 }

@@ -1,42 +1,25 @@
--- An array whose used places are stored in turn: where it agrees with another one. Assumes nothing.
-use mathlib.Core.List.{List}
-use mathlib.Core.Path.{◌∙◌, ◌≡◌, sym}
-use Prim.Native.Nat.{◌+◌, ◌<◌, ℕ}
-use native.Mathlib.Decide.{dec_lt, ℕ_discrete}
-use native.Mathlib.Omega.{arith}
-use lib.ListN.{get_or, length, length-set, set}
-use lib.Seq.{ext_get_or, get_or-set_other, get_or-set_same}
-use Rattle.arrays.specs.Arrays.{Spare, no3}
-use Rattle.feeder.specs.declared.Three.{Three}
+-- An array of which the used places are stored, and one that is zero behind them as it was. Assumes nothing.
+use Rattle.std.specs.Prelude.{◌≡◌, refl, List, [], ◌∷◌, ◌++◌, ◌+◌, ◌-◌, suc, zero, ℕ, ℤ, drop, map, take}
+use Rattle.std.proofs.Common.{◌∙◌, ap, arith, sym}
+use Rattle.std.proofs.lemmas.List.{ext_get_or, get_or-drop, length-drop, map-append, take-append-drop}
+use Rattle.arrays.specs.Arrays.{Spare, no3, three_of, threes_of}
+use Rattle.feeder.specs.Phased.{Three}
 
--- l and m agree before place k and behind the used places
-pub record Agreed (k rows : ℕ) (l m : List Three) : Type 0 where
-  pub long : length l ≡ 201
-  pub front : (j : ℕ) → j < k → get_or l j no3 ≡ get_or m j no3
-  pub behind : (j : ℕ) → rows < j → get_or l j no3 ≡ get_or m j no3
+map-drop : {X Y : Type 0} (f : X → Y) (n : ℕ) (l : List X) → map f (drop n l) ≡ drop n (map f l)
+map-drop f zero l = refl
+map-drop f (suc n) [] = refl
+map-drop f (suc n) (x ∷ l) = map-drop f n l
 
-pub agreed-none : (rows : ℕ) (l m : List Three) → Spare rows l → Spare rows m → Agreed 0 rows l m
-agreed-none rows l m s t = record { long = s.long; front = λ j q. absurd (omega arith); behind = λ j q. s.behind j q ∙ sym (t.behind j q) }
+-- behind the used places both hold zero
+alike : (rows : ℕ) (l m : List Three) → Spare rows l → Spare rows m → drop (rows + 1) l ≡ drop (rows + 1) m
+alike rows l m s t =
+    ext_get_or no3 (drop (rows + 1) l) (drop (rows + 1) m) (length-drop (rows + 1) l ∙ ap (λ (n : ℕ). n - (rows + 1)) (s.long ∙ sym t.long) ∙ sym (length-drop (rows + 1) m))
+    (λ i h. get_or-drop (rows + 1) l i no3 ∙ s.behind (rows + 1 + i) (omega arith) ∙ sym (get_or-drop (rows + 1) m i no3 ∙ t.behind (rows + 1 + i) (omega arith)))
 
-pub agreed-next : (k rows : ℕ) (l m : List Three) (x : Three) → k < 201 → x ≡ get_or m k no3 → Agreed k rows l m → Agreed (k + 1) rows (set l k x) m
-agreed-next k rows l m x p e a =
-    record {
-      long = length-set l k x ∙ a.long;
-      front = λ j q. at j (λ n. a.front j (omega arith));
-      behind = λ j q. at j (λ n. a.behind j q);
-    }
-  where
-    at : (j : ℕ) → ((j ≡ k → ⊥) → get_or l j no3 ≡ get_or m j no3) → get_or (set l k x) j no3 ≡ get_or m j no3
-    at j h =
-        elim (ℕ_discrete j k) [
-          | yes y ↦ rw y (get_or-set_same l k x no3 (omega (arith, a.long)) ∙ e)
-          | no y ↦ get_or-set_other l k j x no3 y ∙ h y
-        ]
-
-pub agreed-all : (k rows : ℕ) (l m : List Three) → length m ≡ 201 → rows < k → Agreed k rows l m → l ≡ m
-agreed-all k rows l m e p a =
-    ext_get_or no3 l m (a.long ∙ sym e) (λ j q.
-    elim (dec_lt j k) [
-      | yes y ↦ a.front j y
-      | no y ↦ a.behind j (omega arith)
-    ])
+-- the used places of m before those of l that are not used
+pub stored : (rows : ℕ) (l m : List (List ℤ)) → Spare rows (threes_of l) → Spare rows (threes_of m) → threes_of (take (rows + 1) m ++ drop (rows + 1) l) ≡ threes_of m
+stored rows l m s t =
+    map-append three_of (take (rows + 1) m) (drop (rows + 1) l)
+    ∙ ap (λ (r : List Three). threes_of (take (rows + 1) m) ++ r) (map-drop three_of (rows + 1) l ∙ alike rows (threes_of l) (threes_of m) s t ∙ sym (map-drop three_of (rows + 1) m))
+    ∙ sym (map-append three_of (take (rows + 1) m) (drop (rows + 1) m))
+    ∙ ap threes_of (take-append-drop (rows + 1) m)

@@ -1,13 +1,9 @@
--- What a test of a number that was passed on tells of the number itself. Assumes nothing.
-use mathlib.Core.Bool.{Bool}
-use mathlib.Core.Path.{◌∙◌, ◌≡◌, ap, sym}
-use Prim.Native.Nat.{ℕ}
-use lib.IntN.{ℤ}
+-- The size of a number that was passed on is that of the number itself. Assumes nothing.
+use Rattle.std.specs.Prelude.{◌≡◌, ℕ, ℤ, nat_abs}
+use Rattle.std.specs.Int.{w64}
+use Rattle.std.proofs.Common.{◌∙◌, SFits, ap, sym}
 use mir.Facts.{to_z-of_z}
-use mir.Syntax.{w64}
-use mir.Val.{SFits}
 use Rattle.integers.specs.Machine.{read}
-use Rattle.integers.specs.Pairs.{inside}
 
-pub told : {z : ℤ} → SFits w64 z → (n : ℕ) {b d : Bool} → b ≡ inside n (read z) → b ≡ d → inside n z ≡ d
-told h n e t = sym (ap (inside n) (to_z-of_z h)) ∙ sym e ∙ t
+pub told : {z : ℤ} → SFits w64 z → {m : ℕ} → m ≡ nat_abs (read z) → nat_abs z ≡ m
+told h e = sym (e ∙ ap nat_abs (to_z-of_z h))

@@ -12,10 +12,9 @@ use Rattle.feeder.specs.declared.LoadKind.{LoadKind}
 use Rattle.feeder.specs.declared.LoadKind.TheVariants.{Current, Impedance, Power}
 use Rattle.feeder.specs.declared.LoadRow.{LoadRow}
 use Rattle.feeder.specs.declared.Network.{Network}
-use Rattle.feeder.specs.declared.Phases.{Phases}
+use Rattle.feeder.specs.Phased.{Phases, Three}
 use Rattle.feeder.specs.declared.Terminals.{Terminals}
 use Rattle.feeder.specs.declared.Terminals.TheVariants.{AB, BC, CA, OnA, OnB, OnC}
-use Rattle.feeder.specs.declared.Three.{Three}
 use Rattle.integers.specs.Pairs.{0c, inside}
 use Rattle.integers.specs.declared.Pair.{Pair}
 use Rattle.text.specs.Lines.{nth}

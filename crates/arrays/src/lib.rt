@@ -61,11 +61,7 @@ pub fn put_three(threes: &mut Threes, k: usize, x: Three)
     requires { k ≤ 200 }
     ensures { threes_of threes.new ≡ set (threes_of threes.old) k x }
 {
-    let a = x.a;
-    let b = x.b;
-    let c = x.c;
-    let n = [a.re, a.im, b.re, b.im, c.re, c.im];
-    threes[k] = n;
+    threes[k] = [x.a.re, x.a.im, x.b.re, x.b.im, x.c.re, x.c.im];
 }
 
 // An array of which places 0 to `rows` are used is cleared, or copied, by these places alone: the whole is 9.6 KB.
@@ -74,12 +70,7 @@ pub fn clear_threes(threes: &mut Threes, rows: usize)
     requires spare { Spare rows (threes_of threes.old) }
     ensures { threes_of threes.new ≡ replicate 201 no3 }
 {
-    let none = [0i64; 6];
-    let mut k = 0;
-    while k <= rows {
-        threes[k] = none;
-        k += 1;
-    }
+    threes[..rows + 1].fill([0; 6]);
 }
 
 pub fn copy_threes(from: &Threes, rows: usize, to: &mut Threes)
@@ -88,12 +79,7 @@ pub fn copy_threes(from: &Threes, rows: usize, to: &mut Threes)
     requires spare_2 { Spare rows (threes_of to.old) }
     ensures { threes_of to.new ≡ threes_of from.now }
 {
-    let mut k = 0;
-    while k <= rows {
-        let n = from[k];
-        to[k] = n;
-        k += 1;
-    }
+    to[..rows + 1].copy_from_slice(&from[..rows + 1]);
 }
 
 pub fn pair_at(pairs: &Pairs, k: usize) -> Pair
@@ -108,37 +94,32 @@ pub fn put_pair(pairs: &mut Pairs, k: usize, x: Pair)
     requires { k ≤ 200 }
     ensures { pairs_of pairs.new ≡ set (pairs_of pairs.old) k x }
 {
-    let n = [x.re, x.im];
-    pairs[k] = n;
+    pairs[k] = [x.re, x.im];
 }
 
 // ---- branches
 pub fn is_on(z: i64) -> bool
     ensures { result ≡ is_on z }
 {
-    !whole::inside(z, 0)
+    z != 0
 }
 
 pub fn on_number(b: bool) -> i64
     ensures value { result ≡ on_number b }
     ensures fits { SFits w64 result }
 {
-    if b { 1 } else { 0 }
+    i64::from(b)
 }
 
 pub fn kind_of(z: i64) -> Kind
     ensures { result ≡ kind_of z }
 {
-    if whole::inside(z, 0) {
-        return Kind::L;
+    match whole::size(z) {
+        0 => Kind::L,
+        1 => Kind::R,
+        2 => Kind::Y,
+        _ => Kind::D,
     }
-    if whole::inside(z, 1) {
-        return Kind::R;
-    }
-    if whole::inside(z, 2) {
-        return Kind::Y;
-    }
-    Kind::D
 }
 
 pub fn kind_number(kind: Kind) -> i64
@@ -166,9 +147,10 @@ fn pair_from(n: &[i64; 17], j: usize) -> Pair
     requires { (1 ≤ j) × (j ≤ 11) }
     ensures { result ≡ pair_at (drop 5 n.now) j }
 {
-    let re = n[j + 4];
-    let im = n[j + 5];
-    Pair { re, im }
+    Pair {
+        re: n[j + 4],
+        im: n[j + 5],
+    }
 }
 
 fn line_of(n: &[i64; 17]) -> Device
@@ -295,22 +277,14 @@ pub fn phases_at(branches: &Branches, k: usize) -> Phases
 pub fn phase_of(z: i64) -> Terminals
     ensures { result ≡ phase_of z }
 {
-    if whole::inside(z, 0) {
-        return Terminals::OnA;
+    match whole::size(z) {
+        0 => Terminals::OnA,
+        1 => Terminals::OnB,
+        2 => Terminals::OnC,
+        3 => Terminals::AB,
+        4 => Terminals::BC,
+        _ => Terminals::CA,
     }
-    if whole::inside(z, 1) {
-        return Terminals::OnB;
-    }
-    if whole::inside(z, 2) {
-        return Terminals::OnC;
-    }
-    if whole::inside(z, 3) {
-        return Terminals::AB;
-    }
-    if whole::inside(z, 4) {
-        return Terminals::BC;
-    }
-    Terminals::CA
 }
 
 pub fn phase_number(phase: Terminals) -> i64
@@ -330,13 +304,11 @@ pub fn phase_number(phase: Terminals) -> i64
 fn load_kind_of(z: i64) -> LoadKind
     ensures { result ≡ load_kind_of z }
 {
-    if whole::inside(z, 0) {
-        return LoadKind::Power;
+    match whole::size(z) {
+        0 => LoadKind::Power,
+        1 => LoadKind::Current,
+        _ => LoadKind::Impedance,
     }
-    if whole::inside(z, 1) {
-        return LoadKind::Current;
-    }
-    LoadKind::Impedance
 }
 
 pub fn load_kind_number(kind: LoadKind) -> i64

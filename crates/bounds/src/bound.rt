@@ -18,53 +18,39 @@
 // Where these sweeps settle, no report that follows documents 01 and 02 is further off: what a report is off by is at most one more sweep of itself. Where they
 // do not, as near a collapse of the voltage, there is no bound.
 use arrays::{Branches, Loads, Places, Settings, Threes, load_at, three_at};
-use feeder::{Load, LoadKind, Terminals, Three};
+use feeder::{Load, LoadKind, PerPhase, Terminals, Three};
 use floats::component::{Quantity, rounding};
-use floats::phasor::{
-    Phasor, PhasorRows, Phasors, absolute, add_at, length, no_phasors, phasor_of, phasors_at,
-    phasors_of, real, root,
-};
+use floats::phasor::{Phasor, PhasorRows, Phasors, Solution, ZERO, no_rows, real};
 use floats::solver::{load_count, low, on_phases, place, sweep, voltage_across};
-
-// Whether there are bounds, and what is added to those on the voltages for the last sweep's movement.
-#[derive(Clone, Copy)]
-pub struct Bounds {
-    pub found: bool,
-    pub moved: f64,
-}
+use std::ops::Add;
 
 // What the currents at constant power and as an impedance differ by, at a voltage of length x.
 fn step(s: f64, vn: f64, x: f64) -> f64 {
-    absolute(s / x - s * x / (vn * vn))
+    (s / x - s * x / (vn * vn)).abs()
 }
 
 // How far the current of a load of constant power is off where the voltage across it is off by at most e, its rounding left out.
 fn power_bound(s: f64, vn: f64, solved: Phasor, reported: Phasor, e: f64) -> f64 {
-    let v = length(solved);
-    let w = length(reported);
+    let v = solved.length();
+    let w = reported.length();
     let as_impedance = s / (vn * vn) * e;
-    if low(vn, solved) {
-        if low(vn, reported) {
-            return as_impedance;
-        }
-        return as_impedance + step(s, vn, w);
+    match (low(vn, solved), low(vn, reported)) {
+        (true, true) => as_impedance,
+        (true, false) => as_impedance + step(s, vn, w),
+        (false, true) => as_impedance + step(s, vn, v),
+        (false, false) => s / (v * w) * e,
     }
-    if low(vn, reported) {
-        return as_impedance + step(s, vn, v);
-    }
-    s / (v * w) * e
 }
 
 // How far the current of a load is off where the voltage across it is off by at most e: its slope times e, its rounding, and for constant current its whole root.
 fn load_bound(l: Load, solved: Phasor, reported: Phasor, e: f64) -> f64 {
-    let kind = l.kind;
-    let s = 100000.0 * length(phasor_of(l.s));
+    let s = 100000.0 * Phasor::from(l.s).length();
     let vn = real(l.vn);
-    match kind {
+    match l.kind {
         LoadKind::Power => power_bound(s, vn, solved, reported, e) + rounding(),
         LoadKind::Current => {
-            let v = length(solved);
-            let w = length(reported);
+            let v = solved.length();
+            let w = reported.length();
             let least_root = if w < 2.0 { 1.0 } else { w - 1.0 };
             2.0 * s / (vn * (v + w)) * e + s / (vn * least_root) + rounding()
         }
@@ -74,33 +60,24 @@ fn load_bound(l: Load, solved: Phasor, reported: Phasor, e: f64) -> f64 {
 
 // How far the voltage across a load is off, from the bounds on the voltages of its node: for two phases the sum of both, with the last sweep's movement of each.
 fn bound_across(terminals: Terminals, bounds: Phasors, moved: f64) -> f64 {
-    let ea = bounds.a;
-    let eb = bounds.b;
-    let ec = bounds.c;
-    let a = ea.re + moved;
-    let b = eb.re + moved;
-    let c = ec.re + moved;
+    let e = bounds.map(|bound| bound.re + moved);
     match terminals {
-        Terminals::OnA => a,
-        Terminals::OnB => b,
-        Terminals::OnC => c,
-        Terminals::AB => a + b,
-        Terminals::BC => b + c,
-        Terminals::CA => c + a,
+        Terminals::OnA => e.a,
+        Terminals::OnB => e.b,
+        Terminals::OnC => e.c,
+        Terminals::AB => e.a + e.b,
+        Terminals::BC => e.b + e.c,
+        Terminals::CA => e.c + e.a,
     }
 }
 
 // How far a load's current is off on each phase, on the second as on the first, from the voltages of its node and the bounds on them.
 fn load_bounds(l: Load, solved: Phasors, reported: Three, bounds: Phasors, moved: f64) -> Phasors {
-    let terminals = l.phase;
-    let v = voltage_across(terminals, solved);
-    let w = voltage_across(terminals, phasors_of(reported));
-    let e = bound_across(terminals, bounds, moved);
-    let bound = Phasor {
-        re: load_bound(l, v, w, e),
-        im: 0.0,
-    };
-    on_phases(terminals, bound, bound)
+    let v = voltage_across(l.phase, solved);
+    let w = voltage_across(l.phase, reported.map(Phasor::from));
+    let e = bound_across(l.phase, bounds, moved);
+    let bound = Phasor::of_length(load_bound(l, v, w, e));
+    on_phases(l.phase, bound, bound)
 }
 
 // The sum over the loads at each node.
@@ -113,23 +90,19 @@ fn drawn_bounds(
     moved: f64,
     own: &mut PhasorRows,
 ) {
-    let count = load_count(rows);
-    let none = [[0.0f64; 6]; 201];
-    *own = none;
-    let mut row = 0;
-    while row < count {
+    *own = no_rows();
+    for row in 0..load_count(rows) {
         let l = load_at(loads, row);
-        row += 1;
         let node = place(l.node);
-        let v = phasors_at(solved, node);
         let w = three_at(reported, node);
-        let e = phasors_at(bounds, node);
-        add_at(own, node, load_bounds(l, v, w, e, moved));
+        let added = load_bounds(l, solved[node], w, bounds[node], moved);
+        own[node] = own[node].zip(added, Add::add);
     }
 }
 
 // The bounds on the voltages at each node in cV and on the currents of each branch in mA, from the voltages in floats and the reported ones, if 1,000 sweeps are
-// enough. They stand in re, and are 0 before the first sweep. The source is not off.
+// enough. They stand in re, and are 0 before the first sweep. The source is not off. The answer is what is added to the bounds on the voltages for the last
+// sweep's movement.
 pub fn bounds_on(
     settings: Settings,
     branches: &Branches,
@@ -137,33 +110,25 @@ pub fn bounds_on(
     order: &Places,
     solved: &PhasorRows,
     reported: &Threes,
-    voltages: &mut PhasorRows,
-    currents: &mut PhasorRows,
-) -> Bounds {
+    bounds: &mut Solution,
+) -> Option<f64> {
     let rows = settings.rows;
-    let count = settings.count;
-    let none = no_phasors();
-    let moved = root(2.0) * std::num::nearest_u64_to_f64(settings.tol);
-    let no_rows = [[0.0f64; 6]; 201];
-    *voltages = no_rows;
-    let mut sweeps: usize = 0;
-    while sweeps < 1000 {
-        drawn_bounds(loads, count, solved, reported, voltages, moved, currents);
-        if sweep(
-            branches,
-            rows,
-            order,
-            Quantity::Bound,
-            none,
-            currents,
-            voltages,
-        ) {
-            return Bounds { found: true, moved };
+    let none = PerPhase::same(ZERO);
+    let moved = 2.0f64.sqrt() * std::num::nearest_u64_to_f64(settings.tol);
+    bounds.voltages = no_rows();
+    for _ in 0..1000 {
+        drawn_bounds(
+            loads,
+            settings.count,
+            solved,
+            reported,
+            &bounds.voltages,
+            moved,
+            &mut bounds.currents,
+        );
+        if sweep(branches, rows, order, Quantity::Bound, none, bounds) {
+            return Some(moved);
         }
-        sweeps += 1;
     }
-    Bounds {
-        found: false,
-        moved,
-    }
+    None
 }

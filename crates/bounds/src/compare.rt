@@ -1,6 +1,6 @@
 // The report against the solution in floats.
 use arrays::{Threes, three_at};
-use floats::phasor::{Phasor, PhasorRows, Phasors, distance, larger, phasors_at, phasors_of};
+use floats::phasor::{Phasor, PhasorRows, Phasors, larger};
 use floats::solver::place;
 
 // The largest distance in re or im, and the largest share of its bound that a distance has, each over all rows and phases.
@@ -11,7 +11,7 @@ pub struct Compared {
 }
 
 fn compare_phase(c: Compared, solved: Phasor, reported: Phasor, bound: f64) -> Compared {
-    let d = distance(solved, reported);
+    let d = solved.distance(reported);
     let share = if d <= 0.0 { 0.0 } else { d / bound };
     Compared {
         distance: larger(c.distance, d),
@@ -26,12 +26,10 @@ fn compare_row(
     bounds: Phasors,
     moved: f64,
 ) -> Compared {
-    let ea = bounds.a;
-    let eb = bounds.b;
-    let ec = bounds.c;
-    let a = compare_phase(c, solved.a, reported.a, ea.re + moved);
-    let b = compare_phase(a, solved.b, reported.b, eb.re + moved);
-    compare_phase(b, solved.c, reported.c, ec.re + moved)
+    let bound = bounds.map(|bound| bound.re + moved);
+    let a = compare_phase(c, solved.a, reported.a, bound.a);
+    let b = compare_phase(a, solved.b, reported.b, bound.b);
+    compare_phase(b, solved.c, reported.c, bound.c)
 }
 
 // Voltages or currents, by node numbers. `moved` is added to each bound.
@@ -42,18 +40,13 @@ pub fn compare(
     bounds: &PhasorRows,
     moved: f64,
 ) -> Compared {
-    let last = place(rows);
     let mut c = Compared {
         distance: 0.0,
         share: 0.0,
     };
-    let mut k = 1;
-    while k <= last {
-        let x = phasors_at(solved, k);
-        let y = three_at(reported, k);
-        let e = phasors_at(bounds, k);
-        c = compare_row(c, x, phasors_of(y), e, moved);
-        k += 1;
+    for k in 1..place(rows) + 1 {
+        let y = three_at(reported, k).map(Phasor::from);
+        c = compare_row(c, solved[k], y, bounds[k], moved);
     }
     c
 }

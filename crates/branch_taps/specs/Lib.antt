@@ -1,3 +1,5 @@
+-- Definitions
+pub mod Regulator
 -- Laws
 pub mod TapRows
 pub mod Setting

@@ -11,7 +11,7 @@ use Rattle.feeder.specs.NetworkLaws.{get_or_kept, length-kept}
 use Rattle.feeder.specs.declared.Branch.{Branch}
 use Rattle.feeder.specs.declared.Device.{Device}
 use Rattle.feeder.specs.declared.Device.TheVariants.{Line, Regulator, Transformer}
-use Rattle.feeder.specs.declared.Taps.{Taps}
+use Rattle.feeder.specs.Phased.{Taps}
 
 -- ---- a branch that is no regulator has no taps to get: it is stored as it was
 pub no-taps : (t : Taps) (b : Branch) → regulates b.device ≡ false → tapped_branch t b ≡ b

@@ -10,7 +10,7 @@ use Rattle.feeder.specs.declared.Branch.{Branch}
 use Rattle.feeder.specs.declared.Device.TheVariants.{Regulator}
 use Rattle.feeder.specs.declared.Kind.{Kind}
 use Rattle.feeder.specs.declared.Kind.TheVariants.{D, L, R, Y}
-use Rattle.feeder.specs.declared.Taps.{Taps}
+use Rattle.feeder.specs.Phased.{Taps}
 use Rattle.integers.specs.Bools.{clash}
 use Rattle.text.specs.Lines.{nth}
 

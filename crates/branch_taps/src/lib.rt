@@ -3,40 +3,21 @@
 
 ghost use Rattle.std.specs.Prelude.{true, ◌≡◌, ◌≤◌, get_or, set};
 ghost use Rattle.arrays.specs.Arrays.{branches_of, is_on};
+ghost use Rattle.branch_taps.specs.Regulator.{regulator_of};
 ghost use Rattle.feeder.specs.Feeder.{level_of, no_branch, regulates, tapped_branch, taps_on};
 
 use arrays::{Branches, branch_at, is_on};
-use feeder::{Device, Taps};
+use feeder::{Device, TapChanger, Taps};
 
-// Whether a device is a regulator, and its taps.
-fn is_regulator(d: Device) -> bool
-    ensures { result ≡ regulates d }
+// The regulator that feeds node k, where one does.
+fn regulator_at(branches: &Branches, k: usize) -> Option<TapChanger>
+    requires { k ≤ 200 }
+    ensures { result ≡ regulator_of (get_or (branches_of branches.now) k no_branch).device }
 {
-    match d {
-        Device::Line(_) => false,
-        Device::Regulator(_) => true,
-        Device::Transformer(_) => false,
-    }
-}
-
-fn taps_on(d: Device) -> Taps
-    ensures { result ≡ taps_on d }
-{
-    match d {
-        Device::Line(_) => Taps { a: 0, b: 0, c: 0 },
-        Device::Regulator(x) => x.taps,
-        Device::Transformer(_) => Taps { a: 0, b: 0, c: 0 },
-    }
-}
-
-// Whether it is a regulator that moves its taps.
-fn has_level(d: Device) -> bool
-    ensures { result ≡ is_on (level_of d) }
-{
-    match d {
-        Device::Line(_) => false,
-        Device::Regulator(x) => is_on(x.level),
-        Device::Transformer(_) => false,
+    let b = branch_at(branches, k);
+    match b.device {
+        Device::Regulator(x) => Some(x),
+        _ => None,
     }
 }
 
@@ -45,27 +26,27 @@ pub fn regulates_at(branches: &Branches, k: usize) -> bool
     requires { k ≤ 200 }
     ensures { result ≡ regulates (get_or (branches_of branches.now) k no_branch).device }
 {
-    let b = branch_at(branches, k);
-    let d = b.device;
-    is_regulator(d)
+    regulator_at(branches, k).is_some()
 }
 
 pub fn taps_at(branches: &Branches, k: usize) -> Taps
     requires { k ≤ 200 }
     ensures { result ≡ taps_on (get_or (branches_of branches.now) k no_branch).device }
 {
-    let b = branch_at(branches, k);
-    let d = b.device;
-    taps_on(d)
+    match regulator_at(branches, k) {
+        Some(x) => x.taps,
+        None => Taps { a: 0, b: 0, c: 0 },
+    }
 }
 
 pub fn level_at(branches: &Branches, k: usize) -> bool
     requires { k ≤ 200 }
     ensures { result ≡ is_on (level_of (get_or (branches_of branches.now) k no_branch).device) }
 {
-    let b = branch_at(branches, k);
-    let d = b.device;
-    has_level(d)
+    match regulator_at(branches, k) {
+        Some(x) => is_on(x.level),
+        None => false,
+    }
 }
 
 // Stores the taps of the regulator that feeds node k.

@@ -2,15 +2,15 @@
 // where there is none, and then the two texts. A text that does not fit is cut short: tools/archive.py writes only what fits.
 #![tactic(auto)]
 
-ghost use Rattle.std.specs.Prelude.{◌+◌, ◌≤◌, min, length};
-ghost use Rattle.std.specs.Io.{ReadsAtMost};
+ghost use Rattle.std.specs.Prelude.{◌≡◌, ◌+◌, ◌<◌, ◌≤◌, min, length, ◌++◌, ℕ, List};
+ghost use Rattle.std.specs.Iterator.{at_most};
 
 use archive::unpack;
 use integers::whole;
+use programs::{read_whole, told};
 use std::fs::Files;
-use std::io::Read;
 use std::{fs, io, str};
-use text::Field;
+use text::Placed;
 use text::read::read_number;
 
 // Room for the cases of a file. Written out in the function that lends it, so long an array is more than the prover can follow.
@@ -18,25 +18,10 @@ pub fn text_space() -> [u8; 2097152] {
     [0; 2097152]
 }
 
-// Reads until the room is full or the input ends. The answer is how many bytes were read.
-fn read_full<R: Read>(reader: &mut R, room: &mut [u8]) -> io::Result<usize>
-    ensures { ReadsAtMost result room.new }
-{
-    let mut size: usize = 0;
-    while size < room.len() {
-        let moved = reader.read(&mut room[size..])?;
-        if moved == 0 {
-            break;
-        }
-        size += moved;
-    }
-    Ok(size)
-}
-
 fn unpack_file(rt: &impl Files, name: &str, text: &mut [u8]) -> io::Result<usize> {
     let mut file = fs::open(rt, name)?;
     let mut packed = [0u8; 262144];
-    let size = read_full(&mut file, &mut packed)?;
+    let size = read_whole(&mut file, &mut packed)?;
     Ok(unpack(&packed[..size], text))
 }
 
@@ -46,72 +31,67 @@ pub fn read_cases(rt: &(impl Files + Eprint), name: &[u8], text: &mut [u8]) -> u
         let _ = eprintln!(rt; "a file's name is not UTF-8");
         return 0;
     };
-    match unpack_file(rt, name, text) {
-        Ok(size) => size,
-        Err(why) => {
-            let _ = eprintln!(rt; "{name}: {why}");
-            0
-        }
-    }
+    told(rt, name, unpack_file(rt, name, text)).unwrap_or(0)
 }
 
-// A number and the place behind its separator. Where no number stands, that is 0 and the text's end.
-#[derive(Clone, Copy)]
-pub struct Count {
-    pub value: usize,
-    pub next: usize,
-}
-
-// The number at a place. The place behind it lies further on, or is the text's end.
-pub fn count_at(text: &[u8], at: usize, sep: u8) -> Count
-    ensures { (result.next ≤ length text.now) × (min (at + 1) (length text.now) ≤ result.next) }
+// The number at a place, and the place behind its separator, which lies further on, or is the text's end. Where no number stands, that is 0 and the text's end.
+pub fn count_at(text: &[u8], at: usize, sep: u8) -> Placed<usize>
+    ensures { (result.1 ≤ length text.now) × (min (at + 1) (length text.now) ≤ result.1) }
 {
-    let Field::Number(z, next) = read_number(text, at, sep) else {
-        return Count {
-            value: 0,
-            next: text.len(),
-        };
+    let Some((z, next)) = read_number(text, at, sep) else {
+        return (0, text.len());
     };
-    let size = whole::size(z);
-    Count {
-        value: size as usize,
-        next,
-    }
+    (whole::size(z) as usize, next)
 }
 
-// The end of a text that begins at a place and has so many bytes.
-fn end_of(text: &[u8], from: usize, size: usize) -> usize
-    requires { from ≤ length text.now }
-    ensures { (from ≤ result) × (result ≤ length text.now) }
+// The text's first bytes, so many or as many as there are, and what stands behind them.
+fn cut(text: &[u8], size: usize) -> (&[u8], &[u8])
+    ensures { text.now ≡ result.0.now ++ result.1.now }
 {
-    if text.len() - from < size {
-        return text.len();
-    }
-    from + size
+    text.split_at(size.min(text.len()))
 }
 
-// A case: its buffer's length, and where its feeder begins, where its report begins, and where it ends.
+// A case: its buffer's length, its feeder and its report.
 #[derive(Clone, Copy)]
-pub struct Case {
+pub struct Case<'a> {
     pub room: usize,
-    pub feeder: usize,
-    pub report: usize,
-    pub end: usize,
+    pub feeder: &'a [u8],
+    pub report: &'a [u8],
 }
 
-// The case at a place. Its end lies further on, or is the text's end.
-pub fn case_at(text: &[u8], at: usize) -> Case
-    ensures { (result.feeder ≤ result.report) × (result.report ≤ result.end) × (result.end ≤ length text.now) × (min (at + 1) (length text.now) ≤ result.end) }
+// The case at the text's start, and what stands behind it. Its line has a byte at least, where the text has one.
+pub fn first_case(text: &[u8]) -> (Case<'_>, &[u8])
+    ensures { (line : List ℕ) × (text.now ≡ line ++ result.0.feeder.now ++ result.0.report.now ++ result.1.now) × (min 1 (length text.now) ≤ length line) }
 {
-    let room = count_at(text, at, 44);
-    let feeder = count_at(text, room.next, 44);
-    let report = count_at(text, feeder.next, 10);
-    let middle = end_of(text, report.next, feeder.value);
-    let end = end_of(text, middle, report.value);
-    Case {
-        room: room.value,
-        feeder: report.next,
-        report: middle,
-        end,
+    let (room, next) = count_at(text, 0, b',');
+    let (feeder, next) = count_at(text, next, b',');
+    let (report, next) = count_at(text, next, b'\n');
+    let (_, texts) = text.split_at(next);
+    let (feeder, rest) = cut(texts, feeder);
+    let (report, rest) = cut(rest, report);
+    let case = Case {
+        room,
+        feeder,
+        report,
+    };
+    (case, rest)
+}
+
+// The cases of a text, one after the other.
+#[derive(Clone, Copy)]
+pub struct Cases<'a>(pub &'a [u8]);
+
+impl<'a> Iterator for Cases<'a> {
+    type Item = Case<'a>;
+
+    ghost remaining = { λ s. at_most (length s.0.now) };
+
+    fn next(&mut self) -> Option<Case<'a>> {
+        if self.0.is_empty() {
+            return None;
+        }
+        let (case, rest) = first_case(self.0);
+        self.0 = rest;
+        Some(case)
     }
 }

@@ -9,7 +9,6 @@ ghost use Rattle.text.specs.Text.{bytes};
 
 use answer_text::{put_refusal, put_text};
 use report_check::check;
-use verdicts::Verdict;
 
 // "pass", or the line "refused NUMBER VALUE", at the start of `out`; where `out` has no room for it, nothing. Answers how many bytes were written. For all
 // bytes and all lengths; where the text is "pass", the power account holds.
@@ -19,7 +18,7 @@ pub fn put_check_answer(feeder: &[u8], report: &[u8], out: &mut [u8]) -> usize
 {
     let verdict = check(feeder, report);
     match verdict {
-        Verdict::Pass => put_text(out, b"pass\n"),
-        Verdict::Fail(x) => put_refusal(out, x),
+        Ok(()) => put_text(out, b"pass\n"),
+        Err(x) => put_refusal(out, x),
     }
 }

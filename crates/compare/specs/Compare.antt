@@ -1,12 +1,10 @@
 -- The tests 51, 52, 53, 55 and 56 over arrays, as the code makes them. Assumes nothing.
-use Rattle.std.specs.Prelude.{Bool, ◌&&◌, cond, not, true, List, ◌∷◌, ◌*◌, ◌+◌, ◌-◌, suc, zero, ℕ, eqb, get_or}
-use Rattle.answers.specs.declared.Found.{Found}
+use Rattle.std.specs.Prelude.{Bool, ◌&&◌, cond, not, true, List, ◌∷◌, ◌*◌, ◌+◌, ◌-◌, ◌<◌, suc, zero, ℕ, eqb, get_or, Option}
 use Rattle.equations.specs.Equations.{at, zero3}
 use Rattle.equations.specs.Taps.{moved_on, same_taps}
 use Rattle.feeder.specs.Feeder.{abc, all_phases, first_row, has, level_of, no_branch, taps_on}
 use Rattle.feeder.specs.declared.Branch.{Branch}
-use Rattle.feeder.specs.declared.Phases.{Phases}
-use Rattle.feeder.specs.declared.Three.{Three}
+use Rattle.feeder.specs.Phased.{Phases, Three}
 use Rattle.integers.specs.Lists.{all, count}
 use Rattle.integers.specs.Pairs.{0c, inside, same}
 use Rattle.integers.specs.declared.Pair.{Pair}
@@ -15,19 +13,23 @@ use Rattle.tap_table.specs.Regulators.{regulators_from}
 use Rattle.compare.specs.Differences.{same3}
 
 -- the report's line of the first node, and of the first branch row, of which a test fails
-abbrev pub node_scan : (ℕ → Bool) → ℕ → Found
+abbrev pub node_scan : (ℕ → Bool) → ℕ → Option ℕ
 node_scan bad rows = first_row (λ (j k : ℕ). bad k) 1 1 (0 ∷ count 1 rows)
 
-abbrev pub row_scan : (ℕ → Bool) → ℕ → Found
+abbrev pub row_scan : (ℕ → Bool) → ℕ → Option ℕ
 row_scan bad rows = first_row (λ (j k : ℕ). bad k) (rows + 4) 1 (count 1 rows)
 
 -- that of the first regulator among the branch rows from k on, where j regulators stand before row k
-abbrev pub tap_scan : (ℕ → ℕ → Bool) → List Branch → ℕ → ℕ → ℕ → Found
+abbrev pub tap_scan : (ℕ → ℕ → Bool) → List Branch → ℕ → ℕ → ℕ → Option ℕ
 tap_scan bad branches rows k j = first_row bad (2 * rows + 9) (j + 1) (regulators_from branches k rows)
 
 -- 51: the names of a node row, of a branch row, and of the j-th regulator's row, that of branch row k
 abbrev pub node_name_differs : List ℕ → List ℕ → ℕ → Bool
 node_name_differs nodes names k = not (eqb (get_or names k 0) (get_or nodes k 0))
+
+-- the from-node of each row has a place in the arrays
+abbrev pub FromNodes : List Branch → ℕ → Type 0
+FromNodes branches rows = (k : ℕ) → k < rows + 1 → parent_in branches k < 201
 
 abbrev pub names_differ : List ℕ → List Branch → List ℕ → List ℕ → ℕ → Bool
 names_differ nodes branches from to k = not (eqb (get_or from k 0) (get_or nodes (parent_in branches k) 0) && eqb (get_or to k 0) (get_or nodes k 0))

@@ -1,21 +1,24 @@
--- Tests over the rows of a report: the first branch row with a fault, and two tests that are one at every row. Assumes nothing.
-use Rattle.std.specs.Prelude.{Bool, ◌&&◌, false, true, List, [], ◌∷◌, ◌≡◌, refl, ◌+◌, ◌<◌, ◌≤◌, suc, zero, ℕ, get_or, length}
-use Rattle.std.proofs.Common.{ap, ap₂, sym, arith}
-use Rattle.answers.specs.declared.Found.TheVariants.{At}
+-- Tests over the rows of a report: the first branch row with a fault, and two tests that are one at every row; and what `==` says of three phases. Assumes nothing.
+use Rattle.std.specs.Prelude.{Bool, ◌&&◌, false, true, List, [], ◌∷◌, ◌≡◌, refl, ◌+◌, ◌<◌, ◌≤◌, suc, zero, ℕ, get_or, length, Some}
+use Rattle.std.proofs.Common.{ap₂, arith}
 use Rattle.feeder.specs.Feeder.{first_row}
-use Rattle.integers.specs.Bools.{and-false, both, joined, same?}
+use Rattle.std.specs.Ordering.{int_eq}
+use Rattle.equations.specs.Equations.{at}
+use Rattle.equations.specs.Sizes.{all-of}
+use Rattle.feeder.specs.Phased.{Three}
+use Rattle.integers.specs.Bools.{and-false, same?}
+use Rattle.integers.specs.Equal.{equal-pair}
 use Rattle.integers.specs.Lists.{all, count, tab}
-use Rattle.integers.specs.PairLaws.{pair_eq, same_true, true_same}
 use Rattle.integers.specs.Pairs.{same}
-use Rattle.integers.specs.declared.Pair.{Pair}
+use Rattle.compare.specs.Differences.{same3}
 
 -- the line of the first row of which a test fails
 pub first-row : (bad : ℕ → Bool) (before n k : ℕ) → 0 < k → k < suc n → ((j : ℕ) → 0 < j → j < k → bad j ≡ false) → bad k ≡ true →
-    first_row (λ (j m : ℕ). bad m) before 1 (count 1 n) ≡ At (before + k)
+    first_row (λ (j m : ℕ). bad m) before 1 (count 1 n) ≡ Some (before + k)
 unfolding first_row count tab
 first-row bad before n k z h none here = go 1 n (omega arith) (omega arith) (omega arith)
   where
-    go : (a m : ℕ) → 0 < a → a ≤ k → k < a + m → first_row (λ (j m : ℕ). bad m) before a (tab (λ i. i) a m) ≡ At (before + k)
+    go : (a m : ℕ) → 0 < a → a ≤ k → k < a + m → first_row (λ (j m : ℕ). bad m) before a (tab (λ i. i) a m) ≡ Some (before + k)
     go a zero s p q = absurd (omega arith)
     go a (suc m) s p q = same? a k (λ e. rw (e, here)) (λ ne. rw (none a s (omega arith)) (go (a + 1) m (omega arith) (omega arith) (omega arith)))
 
@@ -64,15 +67,7 @@ not-all p n k z h e = go 1 n (omega arith) (omega arith)
     go a zero s q = absurd (omega arith)
     go a (suc m) s q = same? a k (λ w. rw (w, e)) (λ ne. rw (go (a + 1) m (omega arith) (omega arith)) (and-false (p a)))
 
--- ---- truth values that say the same
-one_truth : (a b : Bool) → (a ≡ true → b ≡ true) → (b ≡ true → a ≡ true) → a ≡ b
-one_truth true b f g = sym (f refl)
-one_truth false true f g = g refl
-one_truth false false f g = refl
-
--- two pairs are the same where both parts are equal
-pub same_parts : (x y : Pair) (p q : Bool) → (p ≡ true → x.re ≡ y.re) → (x.re ≡ y.re → p ≡ true) → (q ≡ true → x.im ≡ y.im) → (x.im ≡ y.im → q ≡ true) → (p && q) ≡ same x y
-same_parts x y p q a b c d =
-    one_truth (p && q) (same x y)
-    (λ e. let w = both p q e in rw (pair_eq {x = x} {y = y} (a w.0) (c w.1)) (true_same y))
-    (λ e. let z : x ≡ y = same_true e in joined (b (ap (λ (u : Pair). u.re) z)) (d (ap (λ (u : Pair). u.im) z)))
+-- ---- the machine's `==` on the pairs of three phases
+pub equal-three : (x y : Three) →
+    ((int_eq x.a.re y.a.re && int_eq x.a.im y.a.im) && ((int_eq x.b.re y.b.re && int_eq x.b.im y.b.im) && (int_eq x.c.re y.c.re && int_eq x.c.im y.c.im))) ≡ same3 x y
+equal-three x y = all-of (λ p. same (at x p) (at y p)) (equal-pair x.a y.a) (equal-pair x.b y.b) (equal-pair x.c y.c)

@@ -1,18 +1,15 @@
 -- Tests over the rows of a report's last table, made branch row by branch row with a count of the regulators; and taps after a move. Assumes nothing.
-use Rattle.std.specs.Prelude.{Bool, ◌&&◌, cond, false, true, ◌≡◌, refl}
+use Rattle.std.specs.Prelude.{Bool, cond, false, true, ◌≡◌, refl, ℕ, Some, None}
 use mathlib.Core.List.{List, ◌∷◌}
 use Rattle.std.proofs.Common.{◌∙◌}
 use Prim.Native.Nat.{◌*◌, ◌+◌, ◌-◌, ◌<◌, ◌≤◌, suc, zero, ℕ}
 use native.Mathlib.Omega.{arith}
-use Rattle.answers.specs.declared.Found.{Found}
-use Rattle.answers.specs.declared.Found.TheVariants.{At, Nothing}
-use Rattle.equations.specs.Limits.{DeviceOk, TapsOk}
 use Rattle.equations.specs.Taps.{moved_on, moved_taps, same_taps}
 use Rattle.feeder.specs.Feeder.{first_row, no_taps, regulates, taps_on}
 use Rattle.feeder.specs.declared.Branch.{Branch}
 use Rattle.feeder.specs.declared.Device.{Device}
 use Rattle.feeder.specs.declared.Device.TheVariants.{Line, Regulator, Transformer}
-use Rattle.feeder.specs.declared.Three.{Three}
+use Rattle.feeder.specs.Phased.{Three}
 use Rattle.integers.specs.Bools.{clash}
 use Rattle.integers.specs.Lists.{all, chosen, count, tab}
 use Rattle.integers.specs.Pairs.{inside}
@@ -21,7 +18,7 @@ use Rattle.compare.specs.Compare.{tap_scan}
 
 -- ---- one branch row
 module _ (bad : ℕ → ℕ → Bool) (bs : List Branch) (rows : ℕ) where
-  pub tap-row : (k j : ℕ) → k ≤ rows → tap_scan bad bs rows k j ≡ cond (regulates_in bs k) (cond (bad (j + 1) k) (At (2 * rows + 9 + (j + 1))) (tap_scan bad bs rows (k + 1) (j + 1))) (tap_scan bad bs rows (k + 1) j)
+  pub tap-row : (k j : ℕ) → k ≤ rows → tap_scan bad bs rows k j ≡ cond (regulates_in bs k) (cond (bad (j + 1) k) (Some (2 * rows + 9 + (j + 1))) (tap_scan bad bs rows (k + 1) (j + 1))) (tap_scan bad bs rows (k + 1) j)
   unfolding regulators_from count tab chosen first_row
   tap-row k j h =
       let e : suc rows - k ≡ suc (suc rows - (k + 1)) = omega arith in
@@ -30,28 +27,21 @@ module _ (bad : ℕ → ℕ → Bool) (bs : List Branch) (rows : ℕ) where
       rest : List ℕ
       rest = chosen (regulates_in bs) (tab (λ i. i) (k + 1) (suc rows - (k + 1)))
 
-      go : (d : Bool) → first_row bad (2 * rows + 9) (j + 1) (cond d (k ∷ rest) rest) ≡ cond d (cond (bad (j + 1) k) (At (2 * rows + 9 + (j + 1))) (first_row bad (2 * rows + 9) ((j + 1) + 1) rest)) (first_row bad (2 * rows + 9) (j + 1) rest)
+      go : (d : Bool) → first_row bad (2 * rows + 9) (j + 1) (cond d (k ∷ rest) rest) ≡ cond d (cond (bad (j + 1) k) (Some (2 * rows + 9 + (j + 1))) (first_row bad (2 * rows + 9) ((j + 1) + 1) rest)) (first_row bad (2 * rows + 9) (j + 1) rest)
       go true = refl
       go false = refl
 
-  -- the row fails the test: it is the first; or it is no regulator's, or does not fail
-  pub tap-found : (k j : ℕ) → k ≤ rows → (regulates_in bs k && bad (j + 1) k) ≡ true → tap_scan bad bs rows k j ≡ At (2 * rows + 9 + (j + 1))
-  tap-found k j h e = tap-row k j h ∙ go (regulates_in bs k) (bad (j + 1) k) _ _ e
-    where
-      go : (c d : Bool) (x y : Found) → (c && d) ≡ true → cond c (cond d (At (2 * rows + 9 + (j + 1))) x) y ≡ At (2 * rows + 9 + (j + 1))
-      go true true x y e = refl
-      go true false x y e = clash false e refl
-      go false d x y e = clash false e refl
+  -- a regulator's row fails the test: it is the first; or it does not fail; or the row is no regulator's
+  pub tap-found : (k j : ℕ) → k ≤ rows → regulates_in bs k ≡ true → bad (j + 1) k ≡ true → tap_scan bad bs rows k j ≡ Some (2 * rows + 9 + (j + 1))
+  tap-found k j h e f = tap-row k j h ∙ (λ i. cond (e i) (cond (f i) (Some (2 * rows + 9 + (j + 1))) (tap_scan bad bs rows (k + 1) (j + 1))) (tap_scan bad bs rows (k + 1) j))
 
-  pub tap-next : (k j : ℕ) → k ≤ rows → (regulates_in bs k && bad (j + 1) k) ≡ false → tap_scan bad bs rows k j ≡ tap_scan bad bs rows (k + 1) (j + cond (regulates_in bs k) 1 0)
-  tap-next k j h e = tap-row k j h ∙ go (regulates_in bs k) (bad (j + 1) k) _ e
-    where
-      go : (c d : Bool) (x : Found) → (c && d) ≡ false → cond c (cond d x (tap_scan bad bs rows (k + 1) (j + 1))) (tap_scan bad bs rows (k + 1) j) ≡ tap_scan bad bs rows (k + 1) (j + cond c 1 0)
-      go true true x e = clash true refl e
-      go true false x e = refl
-      go false d x e = let z : j + 0 ≡ j = omega arith in rw z
+  pub tap-passed : (k j : ℕ) → k ≤ rows → regulates_in bs k ≡ true → bad (j + 1) k ≡ false → tap_scan bad bs rows k j ≡ tap_scan bad bs rows (k + 1) (j + 1)
+  tap-passed k j h e f = tap-row k j h ∙ (λ i. cond (e i) (cond (f i) (Some (2 * rows + 9 + (j + 1))) (tap_scan bad bs rows (k + 1) (j + 1))) (tap_scan bad bs rows (k + 1) j))
 
-  pub tap-none : (k j : ℕ) → rows < k → tap_scan bad bs rows k j ≡ Nothing
+  pub tap-other : (k j : ℕ) → k ≤ rows → regulates_in bs k ≡ false → tap_scan bad bs rows k j ≡ tap_scan bad bs rows (k + 1) j
+  tap-other k j h e = tap-row k j h ∙ (λ i. cond (e i) (cond (bad (j + 1) k) (Some (2 * rows + 9 + (j + 1))) (tap_scan bad bs rows (k + 1) (j + 1))) (tap_scan bad bs rows (k + 1) j))
+
+  pub tap-none : (k j : ℕ) → rows < k → tap_scan bad bs rows k j ≡ None
   unfolding regulators_from count tab chosen first_row
   tap-none k j h =
       let e : suc rows - k ≡ 0 = omega arith in
@@ -75,11 +65,6 @@ same-tap-rows p q bs rows h = go (suc rows - 1) 1 0 (omega arith) (omega arith)
         one false a b = b
 
 -- ---- taps
-pub taps-ok : (d : Device) → DeviceOk d → TapsOk (taps_on d)
-taps-ok (Line z) h = record { a = omega arith; b = omega arith; c = omega arith }
-taps-ok (Regulator x) h = h.taps
-taps-ok (Transformer x) h = record { a = omega arith; b = omega arith; c = omega arith }
-
 -- a regulator's taps after a move; a line and a transformer have none
 pub no-taps-rest : (b : Branch) (u i : Three) → regulates b.device ≡ false → same_taps (moved_on b u i) (taps_on b.device) ≡ true
 unfolding moved_on all inside

@@ -1,11 +1,10 @@
 -- The tests over arrays are those of the feeder and the report that the arrays hold. Assumes nothing.
 use Rattle.std.proofs.Math.Bool.{Bool, cond, not}
-use Rattle.std.specs.Prelude.{◌&&◌, false, List, ◌∷◌, map, ◌≡◌, refl, eqb, ℤ, get_or, length}
+use Rattle.std.specs.Prelude.{◌&&◌, false, List, ◌∷◌, map, ◌≡◌, refl, eqb, ℤ, get_or, length, Some, None}
 use Rattle.std.proofs.Common.{◌∙◌, arith}
 use Rattle.std.proofs.Math.Path.{ap, ap₂, sym}
 use Prim.Native.Nat.{◌*◌, ◌+◌, ◌-◌, ◌<◌, ◌≤◌, suc, zero, ℕ}
 use Rattle.std.proofs.Math.ListN
-use Rattle.answers.specs.declared.Found.TheVariants.{At, Nothing}
 use Rattle.equations.specs.Equations.{drawn_power, loss_of, lost_power, source_power, zero3}
 use Rattle.equations.proofs.TapMoves.{moved_at}
 use Rattle.equations.specs.Taps.{rests_at}
@@ -15,8 +14,7 @@ use Rattle.feeder.specs.NetworkLaws.{get_or_kept, kept-below}
 use Rattle.feeder.proofs.TapLaws.{count-tapped}
 use Rattle.feeder.specs.declared.Branch.{Branch}
 use Rattle.feeder.specs.declared.Network.{Network}
-use Rattle.feeder.specs.declared.Phases.{Phases}
-use Rattle.feeder.specs.declared.Three.{Three}
+use Rattle.feeder.specs.Phased.{Phases, Three}
 use Rattle.integers.specs.ListLaws.{get_or_map, get_or-tab, length-tab}
 use Rattle.integers.specs.Lists.{all, count}
 use Rattle.integers.specs.Pairs.{0c, same}
@@ -97,11 +95,11 @@ module _ (f : Feeder) (g : Network) (x : Reported) (t : ReportRead) (h : Held f 
           rw (z, a, name k (omega (arith, few)))
 
   pub source-tied : (source : Three) (voltages : List Three) → source ≡ g.source → voltages ≡ t.voltages →
-      or_else (cond (same3 (get_or voltages 0 zero3) source) Nothing (At 2)) (node_scan (absent_differs branches voltages) rows) ≡ source_differs f x
+      or_else (cond (same3 (get_or voltages 0 zero3) source) None (Some 2)) (node_scan (absent_differs branches voltages) rows) ≡ source_differs f x
   unfolding source_differs phases_of
   source-tied source voltages s e =
       ap₂ or_else
-      (ap₂ (λ (a b : Three). cond (same3 a b) Nothing (At 2)) (voltage 0 (omega arith)) (s ∙ h.source))
+      (ap₂ (λ (a b : Three). cond (same3 a b) None (Some 2)) (voltage 0 (omega arith)) (s ∙ h.source))
       (same_nodes (absent_differs branches voltages) bad rows node ∙ ap (λ (m : ℕ). node_scan bad m) count-is)
     where
       bad : ℕ → Bool

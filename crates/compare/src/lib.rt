@@ -5,67 +5,37 @@
 ghost use Rattle.std.specs.Prelude.{◌≡◌, cond, true, List, ◌∷◌, map, ℕ, ◌+◌, ◌<◌, ◌≤◌};
 ghost use Rattle.integers.specs.Lists.{all, count};
 ghost use Rattle.integers.specs.Pairs.{0c, same};
-ghost use Rattle.feeder.specs.Feeder.{Feeder, or_else, row_count, rows_of};
+ghost use Rattle.feeder.specs.Feeder.{Feeder, row_count, rows_of};
 ghost use Rattle.feeder.specs.Network.{Held, kept};
 ghost use Rattle.feeder.specs.declared.Network.{Network};
-ghost use Rattle.feeder.specs.declared.Three.{Three};
+ghost use Rattle.feeder.specs.Phased.{Three};
 ghost use Rattle.equations.specs.Equations.{drawn_power, loss_of, lost_power, source_power, zero3};
 ghost use Rattle.arrays.specs.Arrays.{branches_of, pairs_of, threes_of};
-ghost use Rattle.radial.specs.Radial.{parent_in};
 ghost use Rattle.report.specs.Report.{Reported};
 ghost use Rattle.report_reader.specs.Read.{ReportHeld, ReportRead};
 ghost use Rattle.report_tables.specs.TablesRead.{pair_from};
-ghost use Rattle.compare.specs.Differences.{current_differs, name_differs, same3, source_differs, total_differs};
-ghost use Rattle.compare.specs.Compare.{absent_differs, absent_zero, losses_same, names_differ, node_name_differs, node_scan, row_scan, tap_name_differs, tap_scan, three_differs};
+ghost use Rattle.compare.specs.Differences.{current_differs, name_differs, source_differs, total_differs};
+ghost use Rattle.compare.specs.Compare.{FromNodes, absent_differs, absent_zero, losses_same, names_differ, node_name_differs, node_scan, row_scan, three_differs};
 
 use crate::tap_rows::first_tap_name;
-use answers::Found;
 use arrays::{Branches, Names, Pairs, Threes, from_at, pair_at, phases_at, three_at};
-use devices::threes::all_of;
 use feeder::{Phases, Three};
 use integers::Pair;
 
 pub mod tap_rows;
 
-// ---- equal pairs
-fn same_whole(a: i64, b: i64) -> bool
-    ensures yes { result ≡ true → a ≡ b }
-    ensures no { a ≡ b → result ≡ true }
-{
-    a == b
-}
-
-fn same_pair(x: Pair, y: Pair) -> bool
-    ensures { result ≡ same x y }
-{
-    let p = same_whole(x.re, y.re);
-    let q = same_whole(x.im, y.im);
-    p && q
-}
-
-fn same_three(x: Three, y: Three) -> bool
-    ensures { result ≡ same3 x y }
-{
-    let a = same_pair(x.a, y.a);
-    let b = same_pair(x.b, y.b);
-    let c = same_pair(x.c, y.c);
-    all_of(a, b, c)
-}
-
 // ---- 51
 // The first node row with another name than the feeder's.
-fn first_node_name(nodes: &Names, rows: usize, names: &Names) -> Found
+fn first_node_name(nodes: &Names, rows: usize, names: &Names) -> Option<usize>
     requires { rows ≤ 200 }
     ensures { result ≡ node_scan (node_name_differs nodes.now names.now) rows }
 {
-    let mut k = 0;
-    while k <= rows {
+    for k in 0..rows + 1 {
         if names[k] != nodes[k] {
-            return Found::At(k + 2);
+            return Some(k + 2);
         }
-        k += 1;
     }
-    Found::Nothing
+    None
 }
 
 // The first branch row with another from-name or to-name than the feeder's.
@@ -75,43 +45,18 @@ fn first_branch_name(
     rows: usize,
     froms: &Names,
     tos: &Names,
-) -> Found
+) -> Option<usize>
     requires rows_bound { rows ≤ 200 }
-    requires by_index { (k : ℕ) → k < rows + 1 → parent_in (branches_of branches.now) k < 201 }
+    requires by_index { FromNodes (branches_of branches.now) rows }
     ensures { result ≡ row_scan (names_differ nodes.now (branches_of branches.now) froms.now tos.now) rows }
 {
-    let mut k = 1;
-    while k <= rows {
+    for k in 1..rows + 1 {
         let from = from_at(branches, k);
-        if froms[k] != nodes[from] {
-            return Found::At(rows + 4 + k);
+        if froms[k] != nodes[from] || tos[k] != nodes[k] {
+            return Some(rows + 4 + k);
         }
-        if tos[k] != nodes[k] {
-            return Found::At(rows + 4 + k);
-        }
-        k += 1;
     }
-    Found::Nothing
-}
-
-// The first branch row, or else the first regulator's row, with another name.
-fn first_row_name(
-    nodes: &Names,
-    branches: &Branches,
-    rows: usize,
-    froms: &Names,
-    tos: &Names,
-    tap_names: &Names,
-) -> Found
-    requires rows_bound { rows ≤ 200 }
-    requires by_index { (k : ℕ) → k < rows + 1 → parent_in (branches_of branches.now) k < 201 }
-    ensures { result ≡ or_else (row_scan (names_differ nodes.now (branches_of branches.now) froms.now tos.now) rows) (tap_scan (tap_name_differs nodes.now tap_names.now) (branches_of branches.now) rows 1 0) }
-{
-    let found = first_branch_name(nodes, branches, rows, froms, tos);
-    match found {
-        Found::At(line) => Found::At(line),
-        Found::Nothing => first_tap_name(nodes, branches, rows, tap_names),
-    }
+    None
 }
 
 // 51: "names and row order are the feeder's".
@@ -123,16 +68,14 @@ pub fn first_name_differs(
     froms: &Names,
     tos: &Names,
     tap_names: &Names,
-) -> Found
+) -> Option<usize>
     requires rows_bound { rows ≤ 200 }
-    requires by_index { (k : ℕ) → k < rows + 1 → parent_in (branches_of branches.now) k < 201 }
+    requires by_index { FromNodes (branches_of branches.now) rows }
     ensures { (f : Feeder) (g : Network) (x : Reported) (t : ReportRead) → Held f g → ReportHeld (row_count f) x t → rows ≡ g.rows → nodes.now ≡ g.nodes → branches_of branches.now ≡ g.branches → names.now ≡ t.node_names → froms.now ≡ t.from_names → tos.now ≡ t.to_names → tap_names.now ≡ t.tap_names → result ≡ name_differs f x }
 {
-    let found = first_node_name(nodes, rows, names);
-    match found {
-        Found::At(line) => Found::At(line),
-        Found::Nothing => first_row_name(nodes, branches, rows, froms, tos, tap_names),
-    }
+    first_node_name(nodes, rows, names)
+        .or(first_branch_name(nodes, branches, rows, froms, tos))
+        .or(first_tap_name(nodes, branches, rows, tap_names))
 }
 
 // ---- 52
@@ -140,36 +83,28 @@ pub fn first_name_differs(
 fn zero_unless(on: bool, x: Pair) -> bool
     ensures { result ≡ cond on true (same x 0c) }
 {
-    if on {
-        return true;
-    }
-    same_pair(x, Pair { re: 0, im: 0 })
+    on || x == Pair { re: 0, im: 0 }
 }
 
 fn absent_zero(phases: Phases, x: Three) -> bool
     ensures { result ≡ absent_zero phases x }
 {
-    let a = zero_unless(phases.a, x.a);
-    let b = zero_unless(phases.b, x.b);
-    let c = zero_unless(phases.c, x.c);
-    all_of(a, b, c)
+    zero_unless(phases.a, x.a) && zero_unless(phases.b, x.b) && zero_unless(phases.c, x.c)
 }
 
 // The first node row with a voltage on an absent phase. The source has all phases.
-fn first_absent(branches: &Branches, rows: usize, voltages: &Threes) -> Found
+fn first_absent(branches: &Branches, rows: usize, voltages: &Threes) -> Option<usize>
     requires { rows ≤ 200 }
     ensures { result ≡ node_scan (absent_differs (branches_of branches.now) (threes_of voltages.now)) rows }
 {
-    let mut k = 1;
-    while k <= rows {
+    for k in 1..rows + 1 {
         let phases = phases_at(branches, k);
         let v = three_at(voltages, k);
         if !absent_zero(phases, v) {
-            return Found::At(k + 2);
+            return Some(k + 2);
         }
-        k += 1;
     }
-    Found::Nothing
+    None
 }
 
 // 52: "source voltages are equal and absent phases 0".
@@ -178,37 +113,35 @@ pub fn first_source_differs(
     branches: &Branches,
     rows: usize,
     voltages: &Threes,
-) -> Found
+) -> Option<usize>
     requires { rows ≤ 200 }
     ensures { (f : Feeder) (g : Network) (x : Reported) (t : ReportRead) → Held f g → ReportHeld (row_count f) x t → source ≡ g.source → rows ≡ g.rows → branches_of branches.now ≡ g.branches → threes_of voltages.now ≡ t.voltages → result ≡ source_differs f x }
 {
     let v = three_at(voltages, 0);
-    if !same_three(v, source) {
-        return Found::At(2);
+    if v != source {
+        return Some(2);
     }
     first_absent(branches, rows, voltages)
 }
 
 // ---- 53
 // The first branch row with another current than the worked one.
-fn first_three_differs(rows: usize, reported: &Threes, worked: &Threes) -> Found
+fn first_three_differs(rows: usize, reported: &Threes, worked: &Threes) -> Option<usize>
     requires { rows ≤ 200 }
     ensures { result ≡ row_scan (three_differs (threes_of reported.now) (threes_of worked.now)) rows }
 {
-    let mut k = 1;
-    while k <= rows {
+    for k in 1..rows + 1 {
         let x = three_at(reported, k);
         let y = three_at(worked, k);
-        if !same_three(x, y) {
-            return Found::At(rows + 4 + k);
+        if x != y {
+            return Some(rows + 4 + k);
         }
-        k += 1;
     }
-    Found::Nothing
+    None
 }
 
 // 53: "every reported I follows from load currents at the reported V".
-pub fn first_current_differs(rows: usize, reported: &Threes, worked: &Threes) -> Found
+pub fn first_current_differs(rows: usize, reported: &Threes, worked: &Threes) -> Option<usize>
     requires { rows ≤ 200 }
     ensures { (f : Feeder) (x : Reported) (t : ReportRead) (i : List Three) → ReportHeld (row_count f) x t → rows ≡ row_count f → threes_of reported.now ≡ t.currents → threes_of worked.now ≡ kept zero3 201 i → result ≡ current_differs f x i }
 {
@@ -221,14 +154,12 @@ fn losses_same(rows: usize, losses: &Pairs, worked: &Pairs) -> bool
     requires { rows ≤ 200 }
     ensures { result ≡ all (losses_same (pairs_of losses.now) (pairs_of worked.now)) (count 1 rows) }
 {
-    let mut k = 1;
-    while k <= rows {
-        let x = pair_at(losses, k);
-        let y = pair_at(worked, k);
-        if !same_pair(x, y) {
+    for k in 1..rows + 1 {
+        let loss = pair_at(losses, k);
+        let due = pair_at(worked, k);
+        if loss != due {
             return false;
         }
-        k += 1;
     }
     true
 }
@@ -238,9 +169,10 @@ fn pair_from(totals: &[i64; 7], k: usize) -> Pair
     requires { k ≤ 5 }
     ensures { result ≡ pair_from totals.now k }
 {
-    let re = totals[k];
-    let im = totals[k + 1];
-    Pair { re, im }
+    Pair {
+        re: totals[k],
+        im: totals[k + 1],
+    }
 }
 
 // 55: "losses and totals are equal". The totals' first number is the sweeps.
@@ -262,8 +194,5 @@ pub fn totals_differ(
     let sent = pair_from(totals, 1);
     let taken = pair_from(totals, 3);
     let gone = pair_from(totals, 5);
-    let a = same_pair(sent, source);
-    let b = same_pair(taken, drawn);
-    let c = same_pair(gone, lost);
-    !all_of(a, b, c)
+    !(sent == source && taken == drawn && gone == lost)
 }

@@ -1,5 +1,5 @@
 // The tests of a report's last table, which has a row for each regulator: 51 its names, 56 its taps. The j-th regulator's row is the report's line 2·rows + 9 + j.
-ghost use Rattle.std.specs.Prelude.{◌&&◌, not, ◌≡◌, ℕ, ◌*◌, ◌+◌, ◌<◌, ◌≤◌, get_or};
+ghost use Rattle.std.specs.Prelude.{◌≡◌, ℕ, ◌*◌, ◌+◌, ◌<◌, ◌≤◌, get_or};
 ghost use Rattle.arrays.specs.Arrays.{branches_of, threes_of};
 ghost use Rattle.compare.specs.Compare.{rests_in, stays_in, tap_name_differs, tap_scan};
 ghost use Rattle.compare.specs.Differences.{tap_differs};
@@ -11,11 +11,9 @@ ghost use Rattle.feeder.specs.Network.{branch_array};
 ghost use Rattle.report.specs.Report.{Reported, with_reported};
 ghost use Rattle.report_reader.specs.Read.{ReportHeld, ReportRead};
 
-use answers::Found;
 use arrays::{Branches, Names, Threes, branch_at, three_at};
 use branch_taps::{level_at, regulates_at, taps_at};
 use feeder::Device;
-use tap_table::taps::one_if;
 use taps::{moved_taps, same_taps};
 
 // The report's line of a regulator's row, behind those of j others.
@@ -28,32 +26,28 @@ fn tap_line(rows: usize, j: usize) -> usize
     first + j
 }
 
-// Whether the row of a regulator fails a test. A branch that is no regulator has no row in the table.
-fn fails(on: bool, fine: bool) -> bool
-    ensures { result ≡ (on && not fine) }
-{
-    if on { !fine } else { false }
-}
-
 // ---- 51
 // The first regulator whose row has another name than its node. The names stand in the table's order: that of the regulator behind j others at place j.
-pub fn first_tap_name(nodes: &Names, branches: &Branches, rows: usize, tap_names: &Names) -> Found
+pub fn first_tap_name(
+    nodes: &Names,
+    branches: &Branches,
+    rows: usize,
+    tap_names: &Names,
+) -> Option<usize>
     requires { rows ≤ 200 }
     ensures { result ≡ tap_scan (tap_name_differs nodes.now tap_names.now) (branches_of branches.now) rows 1 0 }
 {
     let mut j = 0;
-    let mut k = 1;
-    while k <= rows {
-        let on = regulates_at(branches, k);
-        let same = tap_names[j] == nodes[k];
-        if fails(on, same) {
-            let line = tap_line(rows, j);
-            return Found::At(line);
+    for k in 1..rows + 1 {
+        if regulates_at(branches, k) {
+            let same = tap_names[j] == nodes[k];
+            if !same {
+                return Some(tap_line(rows, j));
+            }
+            j += 1;
         }
-        j += one_if(on);
-        k += 1;
     }
-    Found::Nothing
+    None
 }
 
 // ---- 56
@@ -66,18 +60,14 @@ fn rests(own: &Branches, k: usize, voltages: &Threes, currents: &Threes) -> bool
     ensures { result ≡ rests_in (branches_of own.now) (threes_of voltages.now) (threes_of currents.now) k }
 {
     let b = branch_at(own, k);
-    let d = b.device;
-    match d {
-        Device::Line(z) => true,
+    match b.device {
         Device::Regulator(x) => {
-            let phases = b.phases;
             let u = three_at(voltages, k);
             let i = three_at(currents, k);
-            let moved = moved_taps(x, phases, u, i);
-            let taps = x.taps;
-            same_taps(moved, taps)
+            let moved = moved_taps(x, b.phases, u, i);
+            same_taps(moved, x.taps)
         }
-        Device::Transformer(w) => true,
+        Device::Line(_) | Device::Transformer(_) => true,
     }
 }
 
@@ -111,7 +101,7 @@ pub fn first_tap_differs(
     rows: usize,
     voltages: &Threes,
     currents: &Threes,
-) -> Found
+) -> Option<usize>
     requires rows_bound { rows ≤ 200 }
     requires by_index { (k : ℕ) → 0 < k → k < rows + 1 → DeviceOk (get_or (branches_of branches.now) k no_branch).device }
     requires by_index_2 { (k : ℕ) → 0 < k → k < rows + 1 → DeviceOk (get_or (branches_of own.now) k no_branch).device }
@@ -120,16 +110,13 @@ pub fn first_tap_differs(
     ensures { (f : Feeder) (x : Reported) (t : ReportRead) → branches_of branches.now ≡ branch_array f → branches_of own.now ≡ branch_array (with_reported f x) → row_count f ≤ 200 → rows ≡ row_count f → ReportHeld (row_count f) x t → threes_of voltages.now ≡ t.voltages → threes_of currents.now ≡ t.currents → result ≡ tap_differs f x }
 {
     let mut j = 0;
-    let mut k = 1;
-    while k <= rows {
-        let on = regulates_at(branches, k);
-        let still = stays(branches, own, k, voltages, currents);
-        if fails(on, still) {
-            let line = tap_line(rows, j);
-            return Found::At(line);
+    for k in 1..rows + 1 {
+        if regulates_at(branches, k) {
+            if !stays(branches, own, k, voltages, currents) {
+                return Some(tap_line(rows, j));
+            }
+            j += 1;
         }
-        j += one_if(on);
-        k += 1;
     }
-    Found::Nothing
+    None
 }

@@ -11,7 +11,7 @@ use Rattle.equations.specs.Equations.{at, downward, voltages, zero3}
 use Rattle.equations.specs.Sizes.{Within3, close3-within, true-close3, within3-le, within3-more, within3-zero}
 use Rattle.feeder.specs.Feeder.{Feeder, above}
 use Rattle.feeder.specs.declared.Branch.{Branch}
-use Rattle.feeder.specs.declared.Three.{Three}
+use Rattle.feeder.specs.Phased.{Three}
 use Rattle.integers.specs.Bools.{clash, same?}
 use Rattle.integers.specs.PairLaws.{Close, close-true, true_same}
 use Rattle.integers.specs.Pairs.{same}

@@ -1,11 +1,10 @@
 -- Reported voltages against worked ones, 54 of 01: what the comparison requires, and what it gives. Assumes nothing.
-use Rattle.std.specs.Prelude.{◌&&◌, Bool, cond, false, not, true, ◌∷◌, List, ◌≡◌, ◌+◌, ◌<◌, ◌≤◌, ℕ, get_or}
-use Rattle.answers.specs.declared.Found.{Found}
+use Rattle.std.specs.Prelude.{◌&&◌, Bool, cond, false, not, true, ◌∷◌, List, ◌≡◌, ◌+◌, ◌<◌, ◌≤◌, ℕ, get_or, Option}
 use Rattle.equations.specs.Equations.{at, downward, voltages, zero3}
 use Rattle.equations.specs.Sizes.{Within3}
 use Rattle.feeder.specs.Feeder.{Feeder, abc, first_row, parent, row_count, rows_of}
 use Rattle.feeder.specs.declared.Branch.{Branch}
-use Rattle.feeder.specs.declared.Three.{Three}
+use Rattle.feeder.specs.Phased.{Three}
 use Rattle.integers.specs.Lists.{all, count}
 use Rattle.integers.specs.Pairs.{close}
 use Rattle.radial.specs.Radial.{parent_in}
@@ -28,7 +27,7 @@ abbrev pub below_off_at : Feeder → ℕ → List Three → List Three → ℕ �
 below_off_at f tol u reported k = downward (λ m b. cond (off_at tol u reported (parent f m)) true b) false (parent f) (row_count f) k
 
 -- the report's line of the first node that is off below none
-abbrev pub first_off : Feeder → ℕ → List Three → List Three → Found
+abbrev pub first_off : Feeder → ℕ → List Three → List Three → Option ℕ
 first_off f tol u reported = first_row (λ (j k : ℕ). off_at tol u reported k && not (below_off_at f tol u reported k)) 1 1 (0 ∷ rows_of f)
 
 -- a mark for each node that is off or below one: below a node is what is marked at its parent
@@ -36,5 +35,5 @@ pub record MarksAre (f : Feeder) (branches : List Branch) (rows : ℕ) (i report
   pub mark : (k : ℕ) → k < rows + 1 → get_or off k false ≡ cond (off_at tol (voltages f i) reported k) true (below_off_at f tol (voltages f i) reported k)
   pub parent-mark : (k : ℕ) → 0 < k → k < rows + 1 → get_or off (parent_in branches k) false ≡ below_off_at f tol (voltages f i) reported k
 
-abbrev pub first_marked : List Branch → ℕ → List Bool → Found
+abbrev pub first_marked : List Branch → ℕ → List Bool → Option ℕ
 first_marked branches rows off = first_row (λ (j k : ℕ). get_or off k false && not (get_or off (parent_in branches k) false)) 1 1 (0 ∷ count 1 rows)

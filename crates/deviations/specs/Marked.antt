@@ -4,7 +4,7 @@ use Rattle.std.proofs.Common.{◌∙◌, ap, ap₂, sym, arith}
 use Rattle.equations.specs.Equations.{voltages}
 use Rattle.feeder.specs.Feeder.{Feeder, first_row, row_count}
 use Rattle.feeder.specs.declared.Branch.{Branch}
-use Rattle.feeder.specs.declared.Three.{Three}
+use Rattle.feeder.specs.Phased.{Three}
 use Rattle.integers.specs.Lists.{count}
 use Rattle.radial.specs.Radial.{parent_in}
 use Rattle.deviations.specs.Deviations.{MarksAre, below_off_at, first_marked, first_off, off_at}

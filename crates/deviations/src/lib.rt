@@ -10,7 +10,6 @@ ghost use Rattle.deviations.specs.Deviations.{Comparable, MarksAre, first_marked
 ghost use Rattle.passes.specs.Passes.{InArrays, Ready};
 ghost use Rattle.radial.specs.Radial.{Linked};
 
-use answers::Found;
 use arrays::{Branches, Places, Threes};
 use devices::threes;
 use feeder::Three;
@@ -35,8 +34,7 @@ fn mark_off(
     let mut worked = [[0i64; 6]; 201];
     arrays::put_three(&mut worked, 0, source);
     let mut off = [false; 201];
-    let mut place = 1;
-    while place <= rows {
+    for place in 1..rows + 1 {
         let m = order[place];
         let b = arrays::branch_at(branches, m);
         let from = b.from;
@@ -51,28 +49,25 @@ fn mark_off(
             arrays::put_three(&mut worked, m, y);
             off[m] = !near;
         }
-        place += 1;
     }
     off
 }
 
 // The report's line of the first node that is marked and whose parent is not.
-fn first_marked(branches: &Branches, rows: usize, off: [bool; 201]) -> Found
+fn first_marked(branches: &Branches, rows: usize, off: [bool; 201]) -> Option<usize>
     requires linked { Linked (branches_of branches.now) rows }
     requires false_value { get_or off 0 false ≡ false }
     ensures { result ≡ first_marked (branches_of branches.now) rows off }
 {
-    let mut k = 1;
-    while k <= rows {
+    for k in 1..rows + 1 {
         if off[k] {
             let from = arrays::from_at(branches, k);
             if !off[from] {
-                return Found::At(k + 2);
+                return Some(k + 2);
             }
         }
-        k += 1;
     }
-    Found::Nothing
+    None
 }
 
 // Reported voltages against worked ones, refusal 54: the report's line of the first node that is off by more than `tol` and is fed through none that is.
@@ -85,7 +80,7 @@ pub fn compare_pass(
     i: &Threes,
     reported: &Threes,
     tol: u64,
-) -> Found
+) -> Option<usize>
     requires ready { Ready (branches_of branches.now) rows order.now rank.now }
     requires comparable { Comparable source (threes_of reported.now) tol }
     requires by_index { (k : ℕ) → 0 < k → k < rows + 1 → Within3 2000000 (get_or (threes_of i.now) k zero3) }

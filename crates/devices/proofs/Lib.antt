@@ -1,1 +1,1 @@
-pub mod SignRead
+pub mod Phased

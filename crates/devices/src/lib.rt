@@ -7,11 +7,11 @@ ghost use Rattle.integers.specs.PairLaws.{Within};
 ghost use Rattle.integers.specs.Lists.{csum};
 ghost use Rattle.feeder.specs.Feeder.{abc};
 ghost use Rattle.equations.specs.Equations.{at, drop_of, each, far_voltage, mix, near_current, power, row_at, sign_table, taken_of, through_of};
-ghost use Rattle.equations.specs.Sizes.{MatrixOk, Within3};
+ghost use Rattle.equations.specs.Sizes.{MatrixOk, SignsOk, Within3};
 ghost use Rattle.equations.specs.Limits.{ChangerOk, DeviceOk, LineOk, WindingsOk};
 
 use equations::{Matrix, SignTable};
-use feeder::{Branch, Connection, Device, LineZ, Signs, TapChanger, Three, Windings};
+use feeder::{Branch, Connection, Device, LineZ, PerPhase, Signs, TapChanger, Three, Windings};
 use integers::{Pair, pairs, whole};
 
 pub mod threes;
@@ -83,14 +83,21 @@ fn regulated(d: TapChanger, x: Three) -> Three
     requires within3 { Within3 2100000 x }
     ensures { result ≡ through_of (Device.Regulator d) x }
 {
-    let t = d.taps;
-    let a = regulate(t.a, x.a);
-    let b = regulate(t.b, x.b);
-    let c = regulate(t.c, x.c);
-    Three { a: a, b: b, c: c }
+    d.taps.zip(x, regulate)
 }
 
 // ---- transformers
+
+// M / N times what a row of signs makes of x.
+fn turn(row: Signs, t: Windings, x: Three) -> Pair
+    requires signs_ok { SignsOk row }
+    requires windings_ok { WindingsOk t }
+    requires within3 { Within3 2100000 x }
+    ensures { result ≡ rnd_pair (scaled t.m (mix row x)) (nat_abs t.n) }
+{
+    let d = whole::size(t.n);
+    ratio(t.m, d, threes::mix(row, x))
+}
 
 // M / N times what the signs make of x.
 fn turned(s: Matrix, t: Windings, x: Three) -> Three
@@ -99,15 +106,7 @@ fn turned(s: Matrix, t: Windings, x: Three) -> Three
     requires within3 { Within3 2100000 x }
     ensures { result ≡ each (λ p. rnd_pair (scaled t.m (mix (row_at s p) x)) (nat_abs t.n)) }
 {
-    let m = t.m;
-    let d = whole::size(t.n);
-    let a = threes::mix(s.a, x);
-    let b = threes::mix(s.b, x);
-    let c = threes::mix(s.c, x);
-    let p = ratio(m, d, a);
-    let q = ratio(m, d, b);
-    let r = ratio(m, d, c);
-    Three { a: p, b: q, c: r }
+    s.map(|row| turn(row, t, x))
 }
 
 fn voltage_through(t: Windings, u: Three) -> Three
@@ -148,11 +147,7 @@ fn ohms(z: Three, i: Three) -> Pair
     requires within3_2 { Within3 2000000 i }
     ensures { result ≡ rnd_pair (csum (λ j. at z j ·c at i j) abc) 10000000 }
 {
-    let a = pairs::mul(z.a, i.a);
-    let b = pairs::mul(z.b, i.b);
-    let c = pairs::mul(z.c, i.c);
-    let s = threes::total(Three { a: a, b: b, c: c });
-    pairs::round(s, 10000000)
+    pairs::round(threes::total(z.zip(i, pairs::mul)), 10000000)
 }
 
 fn line_drop(z: LineZ, i: Three) -> Three
@@ -160,37 +155,32 @@ fn line_drop(z: LineZ, i: Three) -> Three
     requires within3 { Within3 2000000 i }
     ensures { result ≡ drop_of (Device.Line z) i }
 {
-    let aa = z.aa;
-    let ab = z.ab;
-    let ac = z.ac;
-    let bb = z.bb;
-    let bc = z.bc;
-    let cc = z.cc;
-    let a = ohms(
-        Three {
+    let LineZ {
+        aa,
+        ab,
+        ac,
+        bb,
+        bc,
+        cc,
+    } = z;
+    let rows = PerPhase {
+        a: Three {
             a: aa,
             b: ab,
             c: ac,
         },
-        i,
-    );
-    let b = ohms(
-        Three {
+        b: Three {
             a: ab,
             b: bb,
             c: bc,
         },
-        i,
-    );
-    let c = ohms(
-        Three {
+        c: Three {
             a: ac,
             b: bc,
             c: cc,
         },
-        i,
-    );
-    Three { a: a, b: b, c: c }
+    };
+    rows.map(|row| ohms(row, i))
 }
 
 fn winding_drop(t: Windings, i: Three) -> Three
@@ -198,11 +188,7 @@ fn winding_drop(t: Windings, i: Three) -> Three
     requires within3 { Within3 2000000 i }
     ensures { result ≡ drop_of (Device.Transformer t) i }
 {
-    let z = t.z;
-    let a = ohm(z.a, i.a);
-    let b = ohm(z.b, i.b);
-    let c = ohm(z.c, i.c);
-    Three { a: a, b: b, c: c }
+    t.z.zip(i, ohm)
 }
 
 // ---- a device, and a branch
@@ -280,10 +266,7 @@ pub fn power(x: Three, y: Three) -> Pair
     requires within3_2 { Within3 2000000000 y }
     ensures { result ≡ power x y }
 {
-    let a = pairs::mul_conj(x.a, y.a);
-    let b = pairs::mul_conj(x.b, y.b);
-    let c = pairs::mul_conj(x.c, y.c);
-    threes::total(Three { a: a, b: b, c: c })
+    threes::total(x.zip(y, pairs::mul_conj))
 }
 
 pub fn loss(d: Device, i: Three) -> Pair

@@ -15,10 +15,7 @@ pub fn plus(x: Three, y: Three) -> Three
     requires within3_2 { Within3 (2 ^ 61) y }
     ensures { result ≡ plus3 x y }
 {
-    let a = pairs::add(x.a, y.a);
-    let b = pairs::add(x.b, y.b);
-    let c = pairs::add(x.c, y.c);
-    Three { a: a, b: b, c: c }
+    x.zip(y, pairs::add)
 }
 
 pub fn minus(x: Three, y: Three) -> Three
@@ -26,10 +23,7 @@ pub fn minus(x: Three, y: Three) -> Three
     requires within3_2 { Within3 (2 ^ 61) y }
     ensures { result ≡ minus3 x y }
 {
-    let a = pairs::sub(x.a, y.a);
-    let b = pairs::sub(x.b, y.b);
-    let c = pairs::sub(x.c, y.c);
-    Three { a: a, b: b, c: c }
+    x.zip(y, pairs::sub)
 }
 
 // The sum over the phases.
@@ -47,10 +41,7 @@ pub fn mix(s: Signs, x: Three) -> Pair
     requires within3 { Within3 2100000 x }
     ensures { result ≡ mix s x }
 {
-    let a = pairs::scale(s.a, x.a);
-    let b = pairs::scale(s.b, x.b);
-    let c = pairs::scale(s.c, x.c);
-    total(Three { a: a, b: b, c: c })
+    total(s.zip(x, pairs::scale))
 }
 
 // x on each phase as the row of signs has it there.
@@ -59,10 +50,7 @@ pub fn spread(s: Signs, x: Pair) -> Three
     requires within { Within 2100000 x }
     ensures { result ≡ each (λ p. scaled (sign_at s p) x) }
 {
-    let a = pairs::scale(s.a, x);
-    let b = pairs::scale(s.b, x);
-    let c = pairs::scale(s.c, x);
-    Three { a: a, b: b, c: c }
+    s.map(|k| pairs::scale(k, x))
 }
 
 fn kept(on: bool, x: Pair) -> Pair
@@ -75,35 +63,28 @@ fn kept(on: bool, x: Pair) -> Pair
 pub fn keep(f: Phases, x: Three) -> Three
     ensures { result ≡ masked f x }
 {
-    let a = kept(f.a, x.a);
-    let b = kept(f.b, x.b);
-    let c = kept(f.c, x.c);
-    Three { a: a, b: b, c: c }
+    f.zip(x, kept)
 }
 
 // Whether a test holds on every phase.
 pub fn all_of(a: bool, b: bool, c: bool) -> bool
     ensures { result ≡ (a && (b && c)) }
 {
-    a && (b && c)
+    Phases { a, b, c }.all()
 }
 
 // Whether no part of any phase is beyond ±n.
 pub fn within(x: Three, n: u64) -> bool
     ensures { result ≡ all (λ p. within n (at x p)) abc }
 {
-    let a = pairs::within(x.a, n);
-    let b = pairs::within(x.b, n);
-    let c = pairs::within(x.c, n);
-    all_of(a, b, c)
+    x.map(|p| pairs::within(p, n)).all()
 }
 
 // Whether some part of some phase is beyond ±2,000,000.
 pub fn beyond(x: Three) -> bool
     ensures { result ≡ beyond3 x }
 {
-    let w = within(x, 2000000);
-    !w
+    !within(x, 2_000_000)
 }
 
 // Whether x and y differ by at most n in each part of each phase.
@@ -112,8 +93,5 @@ pub fn close(x: Three, y: Three, n: u64) -> bool
     requires within3_2 { Within3 (2 ^ 61) y }
     ensures { result ≡ all (λ p. close n (at x p) (at y p)) abc }
 {
-    let a = pairs::close(x.a, y.a, n);
-    let b = pairs::close(x.b, y.b, n);
-    let c = pairs::close(x.c, y.c, n);
-    all_of(a, b, c)
+    x.zip(y, |p, q| pairs::close(p, q, n)).all()
 }

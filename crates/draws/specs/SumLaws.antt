@@ -4,7 +4,7 @@ use Rattle.std.proofs.Common.{◌∙◌, ap, sym, arith, get_or-set_other, get_o
 use Rattle.std.proofs.Math.Decide.{ℕ_discrete}
 use Rattle.equations.specs.Equations.{plus3, sum3, zero3}
 use Rattle.equations.specs.ThreeLaws.{plus3-assoc, plus3-comm, plus3-idr}
-use Rattle.feeder.specs.declared.Three.{Three}
+use Rattle.feeder.specs.Phased.{Three}
 use Rattle.integers.specs.Lists.{any, csum, tab, All}
 use Rattle.integers.specs.PairLaws.{+c-assoc, +c-comm}
 use Rattle.integers.specs.Pairs.{0c, ◌+c◌}

@@ -1,7 +1,6 @@
 -- The low-voltage rule of 02 in other words: which current a P row takes, that I and Z rows are what they were, and that 30 is left to I rows. Assumes nothing.
-use Rattle.std.specs.Prelude.{Bool, ◌&&◌, cond, false, true, List, [], ◌∷◌, ◌≡◌, refl, ◌*◌, ◌<◌, ◌≤◌, ℕ, nat_abs, pos, ℤ}
+use Rattle.std.specs.Prelude.{Bool, ◌&&◌, cond, false, true, List, [], ◌∷◌, ◌≡◌, refl, ◌*◌, ◌<◌, ◌≤◌, ℕ, nat_abs, pos, ℤ, Ok}
 use Rattle.std.proofs.Common.{ap, arith, le-ltb, leb-true, lt-ltb}
-use Rattle.answers.specs.Answers.{good}
 use Rattle.equations.specs.Equations.{acts_as, current_at, kind_at, needs_voltage, rated, voltage_on, weight, zero_voltage}
 use Rattle.equations.specs.Weight.{mul-pos}
 use Rattle.feeder.specs.Feeder.{Feeder, reading}
@@ -11,7 +10,7 @@ use Rattle.feeder.specs.declared.Load.{Load}
 use Rattle.feeder.specs.declared.LoadKind.{LoadKind}
 use Rattle.feeder.specs.declared.LoadKind.TheVariants.{Current, Impedance, Power}
 use Rattle.feeder.specs.declared.Terminals.TheVariants.{OnA}
-use Rattle.feeder.specs.declared.Three.{Three}
+use Rattle.feeder.specs.Phased.{Three}
 use Rattle.integers.specs.Bools.{and-false, both}
 use Rattle.integers.specs.Lists.{All, any}
 use Rattle.integers.specs.Pairs.{◌·*◌, inside, rnd_pair, scaled, square, within}
@@ -89,7 +88,7 @@ needs-voltage Current vn u q = refl
 needs-voltage Impedance vn u q = refl
 
 -- and of a feeder that is read
-pub zero-voltage-is : (s : List ℕ) (f : Feeder) → reading s ≡ good f → (v : List Three) → zero_voltage f v ≡ any (λ l. is_current l.kind && within 0 (voltage_on l v)) f.loads
+pub zero-voltage-is : (s : List ℕ) (f : Feeder) → reading s ≡ Ok f → (v : List Three) → zero_voltage f v ≡ any (λ l. is_current l.kind && within 0 (voltage_on l v)) f.loads
 unfolding zero_voltage any
 zero-voltage-is s f e v = go f.loads (load-facts s f (sound s f e))
   where

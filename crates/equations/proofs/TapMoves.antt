@@ -11,10 +11,8 @@ use Rattle.feeder.specs.declared.Device.{Device}
 use Rattle.feeder.specs.declared.Device.TheVariants.{Line, Regulator, Transformer}
 use Rattle.feeder.specs.declared.Phase.{Phase}
 use Rattle.feeder.specs.declared.Phase.TheVariants.{A, B, C}
-use Rattle.feeder.specs.declared.Phases.{Phases}
+use Rattle.feeder.specs.Phased.{Phases, Taps, Three}
 use Rattle.feeder.specs.declared.TapChanger.{TapChanger}
-use Rattle.feeder.specs.declared.Taps.{Taps}
-use Rattle.feeder.specs.declared.Three.{Three}
 use Rattle.integers.specs.ListLaws.{count-true, get_or-tab}
 use Rattle.integers.specs.Pairs.{inside}
 use Rattle.integers.specs.Whole.{add_parts, neg-neg, neg_part, parts-eq, pos-neg, pos_part}

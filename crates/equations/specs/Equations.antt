@@ -5,12 +5,10 @@ use Rattle.integers.specs.declared.Pair.{Pair}
 use Rattle.integers.specs.Root.{root}
 use Rattle.integers.specs.Pairs.{0c, ◌+c◌, ◌-c◌, ◌·*◌, ◌·c◌, rnd_pair, scaled, square, within}
 use Rattle.integers.specs.Lists.{any, csum, tab}
-use Rattle.feeder.specs.declared.Three.{Three}
+use Rattle.feeder.specs.Phased.{Phases, Signs, Taps, Three}
 use Rattle.feeder.specs.declared.Phase.{Phase}
 use Rattle.feeder.specs.declared.Phase.TheVariants.{A, B, C}
-use Rattle.feeder.specs.declared.Phases.{Phases}
 use Rattle.feeder.specs.declared.LineZ.{LineZ}
-use Rattle.feeder.specs.declared.Taps.{Taps}
 use Rattle.feeder.specs.declared.Connection.{Connection}
 use Rattle.feeder.specs.declared.Connection.TheVariants.{Delta, Wye}
 use Rattle.feeder.specs.declared.Device.{Device}
@@ -19,9 +17,8 @@ use Rattle.feeder.specs.declared.Branch.{Branch}
 use Rattle.feeder.specs.declared.LoadKind.{LoadKind}
 use Rattle.feeder.specs.declared.LoadKind.TheVariants.{Current, Impedance, Power}
 use Rattle.feeder.specs.declared.Load.{Load}
-use Rattle.feeder.specs.declared.Signs.{Signs}
 use Rattle.feeder.specs.Feeder.{Feeder, abc, branch_at, has, parent, phase_signs, row_count, rows_of, signs}
-use Rattle.equations.specs.declared.Matrix.{Matrix}
+use Rattle.equations.specs.Matrices.{Matrix}
 use Rattle.equations.specs.declared.SignTable.{SignTable}
 
 -- ---- a pair for each phase

@@ -1,10 +1,9 @@
 -- What 11 and 20 to 23 give of a feeder that is read, as the code needs it. Assumes nothing.
-use Rattle.std.specs.Prelude.{Bool, cond, false, true, List, [], ◌∷◌, ◌≡◌, ◌+◌, ◌<◌, ◌≤◌, suc, zero, ℕ, T, ltb, nat_abs, neg_ℤ, pos, ℤ, get_or, length, take}
+use Rattle.std.specs.Prelude.{Bool, cond, false, true, List, [], ◌∷◌, ◌≡◌, ◌+◌, ◌<◌, ◌≤◌, suc, zero, ℕ, T, ltb, nat_abs, neg_ℤ, pos, ℤ, get_or, length, take, Ok}
 use Rattle.std.proofs.Common.{◌∙◌, sym, arith, ltb→lt, leb-true}
 use Rattle.std.proofs.Math.Path.{subst}
 use Rattle.std.proofs.lemmas.List.{length-map}
 use Rattle.std.specs.Int.Signed.{le_z}
-use Rattle.answers.specs.Answers.{good}
 use Rattle.equations.specs.Limits.{Counted, DeviceOk, LoadOk, WindingsOk, between-counted, counted-more}
 use Rattle.equations.specs.Sizes.{Within3}
 use Rattle.feeder.specs.Feeder.{Feeder, above, between, branch_at, branch_in, column_of, delta, device_of, feeder_of, in_limit, load_in, load_of, nodes_of, out_of_limit, parent, reading, row_count, source_in, tap_at, tapped, taps_on, three_at, vn_most}
@@ -23,7 +22,7 @@ use Rattle.feeder.specs.declared.Load.{Load}
 use Rattle.feeder.specs.declared.LoadRow.{LoadRow}
 use Rattle.feeder.specs.declared.Phase.{Phase}
 use Rattle.feeder.specs.declared.Phase.TheVariants.{A, B, C}
-use Rattle.feeder.specs.declared.Taps.{Taps}
+use Rattle.feeder.specs.Phased.{Taps}
 use Rattle.integers.specs.Bools.{both}
 use Rattle.integers.specs.ListLaws.{all-image, all_map, all-map2, at_all}
 use Rattle.integers.specs.Lists.{All, all}
@@ -164,7 +163,7 @@ module _ (s : List ℕ) (f : Feeder) (w : Sound s f) where
       let k = counted-nat 1 100 (nth p 8) g.1 in
       (source-in p h.0, (t.1, (k.0, (k.1, (rw (row-count w.rows) (few-branches w.rows w.t11), rw (length-map w.rows.loads (load_of (nodes_of w.rows))) (few-loads w.rows w.t11)))))))
 
-pub fit : (s : List ℕ) (f : Feeder) → reading s ≡ good f → Fit f
+pub fit : (s : List ℕ) (f : Feeder) → reading s ≡ Ok f → Fit f
 fit s f e =
     let w = sound s f e in
     let z = sized s f w in

@@ -12,3 +12,4 @@ pub mod Downward
 pub mod Upward
 pub mod Meets
 pub mod Absent
+pub mod Matrices

@@ -15,11 +15,9 @@ use Rattle.feeder.specs.declared.LoadKind.{LoadKind}
 use Rattle.feeder.specs.declared.LoadKind.TheVariants.{Current, Impedance, Power}
 use Rattle.feeder.specs.declared.Phase.{Phase}
 use Rattle.feeder.specs.declared.Phase.TheVariants.{A, B, C}
-use Rattle.feeder.specs.declared.Signs.{Signs}
+use Rattle.feeder.specs.Phased.{Signs, Taps, Three}
 use Rattle.feeder.specs.declared.TapChanger.{TapChanger}
-use Rattle.feeder.specs.declared.Taps.{Taps}
 use Rattle.feeder.specs.declared.Terminals.{Terminals}
-use Rattle.feeder.specs.declared.Three.{Three}
 use Rattle.feeder.specs.declared.Windings.{Windings}
 use Rattle.integers.specs.Bools.{both, true-T}
 use Rattle.integers.specs.PairLaws.{Within, square-bound, within-le, within_more, within-mul, within-mul-conj, within-scaled, within-sub}

@@ -14,7 +14,7 @@ use Rattle.equations.specs.Upward.{kirchhoff}
 use Rattle.feeder.specs.Feeder.{Feeder, branch_at, parent, phase_signs, row_count, rows_of}
 use Rattle.feeder.proofs.RowFacts.{Formed, all-reached}
 use Rattle.feeder.specs.declared.Phase.{Phase}
-use Rattle.feeder.specs.declared.Three.{Three}
+use Rattle.feeder.specs.Phased.{Three}
 use Rattle.integers.specs.ListLaws.{all-count, get_or-tab}
 use Rattle.integers.specs.Lists.{csum, tab}
 use Rattle.integers.specs.Pairs.{0c, ◌+c◌, scaled}

@@ -3,18 +3,16 @@ use Rattle.std.specs.Prelude.{Bool, ◌&&◌, cond, false, not, true, List, [], 
 use Rattle.std.proofs.Common.{◌∙◌, ap, sym, arith, lit≤}
 use Rattle.std.proofs.Math.IntN.{+ℤ_idl, zero-*ℤ}
 use Rattle.equations.specs.Equations.{at, beyond, beyond3, each, masked, minus3, mix, plus3, power, row_at, sign_at, sign_table, z_of, zero3}
-use Rattle.equations.specs.declared.Matrix.{Matrix}
+use Rattle.equations.specs.Matrices.{Matrix}
 use Rattle.feeder.specs.Feeder.{abc, has, phase_signs, signs}
 use Rattle.feeder.specs.declared.Connection.{Connection}
 use Rattle.feeder.specs.declared.Connection.TheVariants.{Delta, Wye}
 use Rattle.feeder.specs.declared.LineZ.{LineZ}
 use Rattle.feeder.specs.declared.Phase.{Phase}
 use Rattle.feeder.specs.declared.Phase.TheVariants.{A, B, C}
-use Rattle.feeder.specs.declared.Phases.{Phases}
-use Rattle.feeder.specs.declared.Signs.{Signs}
+use Rattle.feeder.specs.Phased.{Phases, Signs, Three}
 use Rattle.feeder.specs.declared.Terminals.{Terminals}
 use Rattle.feeder.specs.declared.Terminals.TheVariants.{AB, BC, CA, OnA, OnB, OnC}
-use Rattle.feeder.specs.declared.Three.{Three}
 use Rattle.integers.specs.Bools.{clash, cond_ind}
 use Rattle.integers.specs.ListLaws.{all_true, true-all}
 use Rattle.integers.specs.Lists.{all, any, csum, All}

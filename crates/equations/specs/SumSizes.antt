@@ -3,7 +3,7 @@ use Rattle.std.specs.Prelude.{List, [], ◌∷◌, ◌≡◌, ◌*◌, ◌+◌, 
 use Rattle.std.proofs.Common.{arith}
 use Rattle.equations.specs.Equations.{sum3}
 use Rattle.equations.specs.Sizes.{Within3, within-zero, within3-plus, within3-zero}
-use Rattle.feeder.specs.declared.Three.{Three}
+use Rattle.feeder.specs.Phased.{Three}
 use Rattle.integers.specs.Lists.{csum, All}
 use Rattle.integers.specs.PairLaws.{Within, within-add}
 use Rattle.integers.specs.Pairs.{◌+c◌}

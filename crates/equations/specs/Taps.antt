@@ -7,10 +7,8 @@ use Rattle.feeder.specs.declared.Branch.{Branch}
 use Rattle.feeder.specs.declared.Device.TheVariants.{Line, Regulator, Transformer}
 use Rattle.feeder.specs.declared.Phase.{Phase}
 use Rattle.feeder.specs.declared.Phase.TheVariants.{A, B, C}
-use Rattle.feeder.specs.declared.Phases.{Phases}
+use Rattle.feeder.specs.Phased.{Phases, Taps, Three}
 use Rattle.feeder.specs.declared.TapChanger.{TapChanger}
-use Rattle.feeder.specs.declared.Taps.{Taps}
-use Rattle.feeder.specs.declared.Three.{Three}
 use Rattle.integers.specs.Lists.{all, tab}
 use Rattle.integers.specs.Pairs.{◌-c◌, ◌·c◌, inside, rnd_pair, square}
 use Rattle.integers.specs.declared.Pair.{Pair}

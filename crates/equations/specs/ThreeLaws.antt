@@ -7,8 +7,7 @@ use Rattle.feeder.specs.declared.Connection.{Connection}
 use Rattle.feeder.specs.declared.Connection.TheVariants.{Delta, Wye}
 use Rattle.feeder.specs.declared.Phase.{Phase}
 use Rattle.feeder.specs.declared.Phase.TheVariants.{A, B, C}
-use Rattle.feeder.specs.declared.Phases.{Phases}
-use Rattle.feeder.specs.declared.Three.{Three}
+use Rattle.feeder.specs.Phased.{Phases, Three}
 use Rattle.integers.specs.Lists.{csum, All}
 use Rattle.integers.specs.PairLaws.{+c-assoc, +c-comm, +c-idl, +c-idr, Close}
 use Rattle.integers.specs.Pairs.{0c, ◌+c◌, ◌-c◌}

@@ -9,7 +9,7 @@ use Rattle.equations.specs.Equations.{near_current, plus3, sum3, upward, zero3}
 use Rattle.equations.specs.ThreeLaws.{plus3-idr, sum3-cong, sum3-zero}
 use Rattle.feeder.specs.Feeder.{Feeder, above, branch_at, parent, row_count, rows_of}
 use Rattle.feeder.proofs.FeederLaws.{Reached}
-use Rattle.feeder.specs.declared.Three.{Three}
+use Rattle.feeder.specs.Phased.{Three}
 use Rattle.integers.specs.Lists.{All}
 
 -- one step of the recursion

@@ -1,5 +1,5 @@
 -- 11 and 20 to 24: each search of Feeder finds the first line of which the row has that fault (Faults), or no row has it. Assumes nothing.
-use Rattle.std.specs.Prelude.{Bool, ◌&&◌, false, ◌⊎◌, ◌≡◌, refl, eqb, length}
+use Rattle.std.specs.Prelude.{Bool, ◌&&◌, false, ◌⊎◌, ◌≡◌, refl, eqb, length, Option, ℕ}
 use Rattle.std.proofs.Math.Bool.{cond, not, true}
 use Rattle.std.proofs.Math.Logic.{inl, inr, ⊎_elim}
 use Rattle.std.proofs.Math.Path.{ap}
@@ -7,7 +7,6 @@ use Prim.Native.Nat.{◌+◌, ◌<◌, suc, ℕ}
 use native.Mathlib.Omega.{arith}
 use Rattle.std.proofs.Math.Dec.{ltb}
 use borrow.Author.Tests.{eq-eqb, lt-ltb, ltb-true, ne_eqb, not-true}
-use Rattle.answers.specs.declared.Found.{Found}
 use Rattle.feeder.specs.Faults.{Fault11, Fault20, Fault21, Fault22, Fault23, Fault24, FileRow, InLine, IsNode, LacksPhase, RowAt, Stands, of_branches, of_loads, of_source}
 use Rattle.feeder.specs.Feeder.{above, all_of, branch_in, feeder_of, first_branch, first_load, has, known, load_in, not_reached, not_zero, or_else, out_of_limit, parent, phase_absent, phases_of, row_count, second_to, source_in, stands_on, three_phase, unknown_from, zeros}
 use Rattle.feeder.specs.Layout.{Rows}
@@ -19,7 +18,7 @@ use Rattle.feeder.specs.declared.BranchRow.{BranchRow}
 use Rattle.feeder.specs.declared.LoadRow.{LoadRow}
 use Rattle.feeder.specs.declared.Phase.{Phase}
 use Rattle.feeder.specs.declared.Phase.TheVariants.{A, B, C}
-use Rattle.feeder.specs.declared.Phases.{Phases}
+use Rattle.feeder.specs.Phased.{Phases}
 use Rattle.feeder.specs.declared.Terminals.{Terminals}
 use Rattle.feeder.specs.declared.Terminals.TheVariants.{AB, BC, CA, OnA, OnB, OnC}
 use Rattle.integers.specs.Bools.{and-false, clash, fails-test, one-false}
@@ -69,18 +68,18 @@ module _ (r : Rows) (Fault : Rows → FileRow → Type 0) where
       (finds-rows bad (length r.branches + 6) r.loads)
 
   -- a fault of branch rows alone, of branch and load rows, and of all rows
-  only-branches : {x : Found} → (Fault r of_source → ⊥) → ((k : ℕ) (l : LoadRow) → Fault r (of_loads k l) → ⊥) → Finds x InBranches → Finds x (RowAt Fault r)
+  only-branches : {x : Option ℕ} → (Fault r of_source → ⊥) → ((k : ℕ) (l : LoadRow) → Fault r (of_loads k l) → ⊥) → Finds x InBranches → Finds x (RowAt Fault r)
   only-branches s l = finds-same of-branches (λ n h. in_table h (λ w. absurd (s w.1)) (λ w. w) (λ w. absurd (l w.0 w.1.0 w.1.1.1)))
 
-  branches-loads : {a b : Found} → Finds a InBranches → Finds b InLoads → Finds (or_else a b) (λ n. InBranches n ⊎ InLoads n)
+  branches-loads : {a b : Option ℕ} → Finds a InBranches → Finds b InLoads → Finds (or_else a b) (λ n. InBranches n ⊎ InLoads n)
   branches-loads {a} {b} = finds-or (length r.branches + 5) a b
       (λ n h. let i = h.1.1.0 in omega (arith, i.1, stands_at i.0 h.1.0))
       (λ n h. let i = h.1.1.0 in omega (arith, i.1, stands_at i.0 h.1.0))
 
-  no_source : {x : Found} → (Fault r of_source → ⊥) → Finds x (λ n. InBranches n ⊎ InLoads n) → Finds x (RowAt Fault r)
+  no_source : {x : Option ℕ} → (Fault r of_source → ⊥) → Finds x (λ n. InBranches n ⊎ InLoads n) → Finds x (RowAt Fault r)
   no_source s = finds-same (λ n. ⊎_elim (of-branches n) (of-loads n)) (λ n h. in_table h (λ w. absurd (s w.1)) inl inr)
 
-  source-too : {a b : Found} → Finds a InSource → Finds b (λ n. InBranches n ⊎ InLoads n) → Finds (or_else a b) (RowAt Fault r)
+  source-too : {a b : Option ℕ} → Finds a InSource → Finds b (λ n. InBranches n ⊎ InLoads n) → Finds (or_else a b) (RowAt Fault r)
   source-too {a} {b} f g = finds-same (λ n. ⊎_elim (of-source n) (⊎_elim (of-branches n) (of-loads n))) (λ n h. in_table h inl (λ w. inr (inl w)) (λ w. inr (inr w)))
       (finds-or 2 a b (λ n h. omega (arith, h.0)) (λ n. ⊎_elim (λ h. omega (arith, h.1.1.0.1)) (λ h. omega (arith, h.1.1.0.1))) f g)
 

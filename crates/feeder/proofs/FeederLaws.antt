@@ -1,11 +1,10 @@
 -- What is known of a feeder that was read: none of 9 to 24 applies; every row is reached, and every parent is a node. Assumes nothing.
-use Rattle.std.specs.Prelude.{false, not, List, [], ◌∷◌, ◌≡◌, refl, ◌+◌, ◌<◌, suc, zero, ℕ, eqb, get_or, length}
+use Rattle.std.specs.Prelude.{false, not, List, [], ◌∷◌, ◌≡◌, refl, ◌+◌, ◌<◌, suc, zero, ℕ, eqb, get_or, length, None, Ok}
 use Rattle.std.proofs.Common.{ap, subst, arith, eq-eqb, eqb-true, ltb-true}
 use Rattle.std.proofs.lemmas.List.{length-map}
 use Rattle.std.proofs.lemmas.Bool.{not-false}
 use Rattle.answers.specs.AnswerLaws.{bound, not_at, not-if, same_good}
-use Rattle.answers.specs.Answers.{◌>>=◌, good}
-use Rattle.answers.specs.declared.Found.TheVariants.{Nothing}
+use Rattle.answers.specs.Answers.{◌>>=◌}
 use Rattle.answers.specs.declared.Refusal.TheVariants.{TooLong}
 use Rattle.feeder.specs.Feeder.{Feeder, above, branch_at, branch_of, feeder_of, known, no_branch, nodes_of, not_reached, not_zero, out_of_limit, parent, phase_absent, place_of, reading, row_count, second_to, too_long, unknown_from}
 use Rattle.feeder.specs.Layout.{Rows, layout}
@@ -19,17 +18,17 @@ use Rattle.integers.specs.ListLaws.{get_or_map}
 pub record Sound (s : List ℕ) (f : Feeder) : Type 0 where
   pub rows : Rows
   pub t9 : too_long s ≡ false
-  pub read : layout s ≡ good rows
+  pub read : layout s ≡ Ok rows
   pub made : feeder_of rows ≡ f
-  pub t11 : out_of_limit rows ≡ Nothing
-  pub t20 : unknown_from rows ≡ Nothing
-  pub t21 : second_to rows ≡ Nothing
-  pub t22 : not_reached rows ≡ Nothing
-  pub t23 : phase_absent rows ≡ Nothing
-  pub t24 : not_zero rows ≡ Nothing
+  pub t11 : out_of_limit rows ≡ None
+  pub t20 : unknown_from rows ≡ None
+  pub t21 : second_to rows ≡ None
+  pub t22 : not_reached rows ≡ None
+  pub t23 : phase_absent rows ≡ None
+  pub t24 : not_zero rows ≡ None
 
 -- a feeder that is read has met each test
-pub sound : (s : List ℕ) (f : Feeder) → reading s ≡ good f → Sound s f
+pub sound : (s : List ℕ) (f : Feeder) → reading s ≡ Ok f → Sound s f
 unfolding reading from11 from20 from21 from22 from23 from24
 sound s f e =
     let a = not-if (too_long s) TooLong (layout s >>= from11) f e in
@@ -43,9 +42,9 @@ sound s f e =
     record { rows = b.value; t9 = a.0; read = b.came; made = same_good _ _ j.1; t11 = c.0; t20 = d.0; t21 = g.0; t22 = h.0; t23 = i.0; t24 = j.0 }
 
 -- and a text that meets each test is read
-pub sound-reads : (s : List ℕ) (f : Feeder) → Sound s f → reading s ≡ good f
+pub sound-reads : (s : List ℕ) (f : Feeder) → Sound s f → reading s ≡ Ok f
 unfolding reading
-sound-reads s f w = rw (w.t9, w.read, w.t11, w.t20, w.t21, w.t22, w.t23, w.t24) (ap (λ (g : Feeder). good g) w.made)
+sound-reads s f w = rw (w.t9, w.read, w.t11, w.t20, w.t21, w.t22, w.t23, w.t24) (ap (λ (g : Feeder). Ok g) w.made)
 
 pub row-count : (r : Rows) → row_count (feeder_of r) ≡ length r.branches
 unfolding feeder_of
@@ -91,7 +90,7 @@ unfolding branch_at feeder_of
 branch-is r j q d = get_or_map (branch_of (nodes_of r)) r.branches j d no_branch q
 
 -- 20: every parent is a node
-pub parent-among : (r : Rows) → unknown_from r ≡ Nothing → (k : ℕ) → k < suc (row_count (feeder_of r)) → parent (feeder_of r) k < suc (row_count (feeder_of r))
+pub parent-among : (r : Rows) → unknown_from r ≡ None → (k : ℕ) → k < suc (row_count (feeder_of r)) → parent (feeder_of r) k < suc (row_count (feeder_of r))
 unfolding unknown_from feeder_of nodes_of branch_at
 parent-among r t zero q = omega arith
 parent-among r t (suc j) q =
@@ -105,7 +104,7 @@ pub parent-known : (s : List ℕ) (f : Feeder) → Sound s f → (k : ℕ) → k
 parent-known s f w = subst (λ (g : Feeder). (k : ℕ) → k < suc (row_count g) → parent g k < suc (row_count g)) w.made (parent-among w.rows w.t20)
 
 -- 22 has a bound on the steps, and no other meaning by it: where each row's node is brought to the source by some number of steps, none is found
-pub reached-somehow : (r : Rows) → unknown_from r ≡ Nothing → (steps : ℕ → ℕ) → ((k : ℕ) → 0 < k → k < suc (length r.branches) → above (parent (feeder_of r)) (steps k) k ≡ 0) → not_reached r ≡ Nothing
+pub reached-somehow : (r : Rows) → unknown_from r ≡ None → (steps : ℕ → ℕ) → ((k : ℕ) → 0 < k → k < suc (length r.branches) → above (parent (feeder_of r)) (steps k) k ≡ 0) → not_reached r ≡ None
 unfolding not_reached
 reached-somehow r t steps h =
     let f : Feeder = feeder_of r in

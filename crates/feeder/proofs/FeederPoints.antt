@@ -1,10 +1,9 @@
 -- An answer that goes by the reading of a feeder's file points at the first row with a fault (Faults). Assumes nothing.
-use Rattle.std.specs.Prelude.{Bool, false, true, List, ◌≡◌, refl, ◌≤◌, ℕ, length}
+use Rattle.std.specs.Prelude.{Bool, false, true, List, ◌≡◌, refl, ◌≤◌, ℕ, length, Option, Ok, Err}
 use Rattle.std.proofs.Common.{◌∙◌, ap, subst, sym, arith, le-ltb, ltb-false}
 use Rattle.answers.specs.AnswerLaws.{not_good, same_good, same-refused}
-use Rattle.answers.specs.Answers.{Outcome, ◌>>=◌, ◌>>◌, good, refuse_if, refused}
+use Rattle.answers.specs.Answers.{Outcome, ◌>>=◌, ◌>>◌, refuse_if}
 use Rattle.answers.specs.Only.{Only, after-only, if-only, then-only}
-use Rattle.answers.specs.declared.Found.{Found}
 use Rattle.answers.specs.declared.Refusal.{Refusal}
 use Rattle.answers.specs.declared.Refusal.TheVariants.{NotReached, NotZero, OutOfLimit, PhaseAbsent, SecondTo, TooLong, UnknownFrom}
 use Rattle.feeder.specs.Faults.{Fault11, Fault20, Fault21, Fault22, Fault23, Fault24, FaultAt, FileRow, Free11, Free20, Free21, Free22, Free23, PointsAt, PointsIntoFeeder, RowAt}
@@ -29,22 +28,22 @@ reading-turn s = rw (reading-is s)
     (λ r e. tests-only r (λ n f. omega arith) (λ n f. omega arith) (λ n f. omega arith) (λ n f. omega arith) (λ n f. omega arith) (λ n f. omega arith))))
 
 -- 9 comes first
-pub reading-short : (s : List ℕ) (y : Refusal) → reading s ≡ refused y → 1 ≤ turn y → length s ≤ 65536
+pub reading-short : (s : List ℕ) (y : Refusal) → reading s ≡ Err y → 1 ≤ turn y → length s ≤ 65536
 reading-short s y e p = go (too_long s) refl (rw (reading-is s) at e)
   where
-    go : (c : Bool) → too_long s ≡ c → (refuse_if c TooLong >> (layout s >>= from11)) ≡ refused y → length s ≤ 65536
+    go : (c : Bool) → too_long s ≡ c → (refuse_if c TooLong >> (layout s >>= from11)) ≡ Err y → length s ≤ 65536
     go true q e = let z = ap turn (same-refused TooLong y e) in absurd (omega arith)
     go false q e = ltb-false 65536 (length s) q
 
 -- an answer that goes by the reading: where it fits (9), what the reading refuses is told, and what is told of 11 to 24 comes from there
 pub record ByReading (s : List ℕ) (fits : Type 0) (tells : Refusal → Type 0) : Type 0 where
   pub short : fits → length s ≤ 65536
-  pub into : fits → (y : Refusal) → reading s ≡ refused y → tells y
-  pub back : (y : Refusal) → 2 ≤ turn y → turn y ≤ 7 → tells y → fits × (reading s ≡ refused y)
+  pub into : fits → (y : Refusal) → reading s ≡ Err y → tells y
+  pub back : (y : Refusal) → 2 ≤ turn y → turn y ≤ 7 → tells y → fits × (reading s ≡ Err y)
 
 module _ (s : List ℕ) {fits : Type 0} {tells : Refusal → Type 0} (by : ByReading s fits tells) where
   -- ---- a text that is the file of rows r
-  module _ (r : Rows) (laid : layout s ≡ good r) where
+  module _ (r : Rows) (laid : layout s ≡ Ok r) where
     -- faults of the rows are those of the text
     in-text : (Fault : Rows → FileRow → Type 0) (n : ℕ) → RowAt Fault r n → FaultAt Fault s n
     in-text Fault n h = let w = (layout-good s r).0 laid in let f : WellLaid s = record { rows = r; writable = w.0; text = w.1 } in record { file = f; here = h; written = line-of-row s f h.row n h.in-line }
@@ -55,7 +54,7 @@ module _ (s : List ℕ) {fits : Type 0} {tells : Refusal → Type 0} (by : ByRea
     -- the tests come in their order
     late24 : Late 7 (from24 r)
     unfolding from24
-    late24 = late-at 7 NotZero (not_zero r) (good (feeder_of r)) (λ n. refl) (late-good 8 (feeder_of r))
+    late24 = late-at 7 NotZero (not_zero r) (Ok (feeder_of r)) (λ n. refl) (late-good 8 (feeder_of r))
 
     late23 : Late 6 (from23 r)
     unfolding from23
@@ -79,12 +78,12 @@ module _ (s : List ℕ) {fits : Type 0} {tells : Refusal → Type 0} (by : ByRea
       back = λ y p q t. let w = by.back y p q t in (w.0, goes y p (too_long s) (rw (reading-is s) at w.1));
     }
       where
-        goes : (y : Refusal) → 2 ≤ turn y → (c : Bool) → (refuse_if c TooLong >> (layout s >>= from11)) ≡ refused y → from11 r ≡ refused y
+        goes : (y : Refusal) → 2 ≤ turn y → (c : Bool) → (refuse_if c TooLong >> (layout s >>= from11)) ≡ Err y → from11 r ≡ Err y
         goes y p true e = let z = ap turn (same-refused TooLong y e) in absurd (omega arith)
         goes y p false e = rw laid at e
 
     -- what is found of the rows is found of the text
-    text-finds : (Fault : Rows → FileRow → Type 0) {x : Found} → Finds x (RowAt Fault r) → Finds x (FaultAt Fault s)
+    text-finds : (Fault : Rows → FileRow → Type 0) {x : Option ℕ} → Finds x (RowAt Fault r) → Finds x (FaultAt Fault s)
     text-finds Fault = finds-same (in-text Fault) (in_rows Fault)
 
     -- where no row has 20 and none 21, rows are placed
@@ -114,20 +113,20 @@ module _ (s : List ℕ) {fits : Type 0} {tells : Refusal → Type 0} (by : ByRea
 
     at24 : PointsAt (λ n. tells (NotZero n)) (FaultAt Fault24 s) (Free23 s fits)
     unfolding from24
-    at24 = (step 7 7 NotZero (not_zero r) (good (feeder_of r)) (λ n. refl) (λ n. refl) (omega arith) (late-good 8 (feeder_of r)) (λ h. text-finds Fault24 (finds-24 r)) step23.1).0
+    at24 = (step 7 7 NotZero (not_zero r) (Ok (feeder_of r)) (λ n. refl) (λ n. refl) (omega arith) (late-good 8 (feeder_of r)) (λ h. text-finds Fault24 (finds-24 r)) step23.1).0
 
     file-points : PointsIntoFeeder s fits tells
     file-points = record { at-11 = step11.0; at-20 = step20.0; at-21 = step21.0; at-22 = step22.0; at-23 = step23.0; at-24 = at24 }
 
   -- ---- any other text: none of its lines is a row's, and none of these numbers is told
-  module _ (x : Refusal) (not-laid : layout s ≡ refused x) where
+  module _ (x : Refusal) (not-laid : layout s ≡ Err x) where
     no-fault : (Fault : Rows → FileRow → Type 0) (n : ℕ) → FaultAt Fault s n → ⊥
     no-fault Fault n h = not_good h.file.rows x (sym (laid-good s h.file) ∙ not-laid)
 
     not-told : (y : Refusal) → 2 ≤ turn y → turn y ≤ 7 → tells y → ⊥
     not-told y p q t = goes (too_long s) (rw (reading-is s) at (by.back y p q t).1)
       where
-        goes : (c : Bool) → (refuse_if c TooLong >> (layout s >>= from11)) ≡ refused y → ⊥
+        goes : (c : Bool) → (refuse_if c TooLong >> (layout s >>= from11)) ≡ Err y → ⊥
         goes true e = let z = ap turn (same-refused TooLong y e) in omega arith
         goes false e =
             let w = layout-refused s x not-laid in
@@ -156,5 +155,5 @@ module _ (s : List ℕ) {fits : Type 0} {tells : Refusal → Type 0} (by : ByRea
   points-into-feeder = go (layout s) refl
     where
       go : (o : Outcome Rows) → layout s ≡ o → PointsIntoFeeder s fits tells
-      go (good r) e = file-points r e
-      go (refused x) e = no-file-points x e
+      go (Ok r) e = file-points r e
+      go (Err x) e = no-file-points x e

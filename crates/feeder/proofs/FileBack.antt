@@ -1,9 +1,8 @@
 -- A feeder's file that was written is read back as its rows. Assumes nothing.
-use Rattle.std.specs.Prelude.{true, List, [], ◌++◌, ◌≡◌, refl, ◌+◌, ℕ, drop, length}
+use Rattle.std.specs.Prelude.{true, List, [], ◌++◌, ◌≡◌, refl, ◌+◌, ℕ, drop, length, Ok}
 use Rattle.std.proofs.Common.{append_assoc, append-nil, ◌∙◌, ap, sym, arith, length-append, eq-eqb}
 use Rattle.std.proofs.Math.Seq.{drop-append_seam}
 use Rattle.answers.specs.AnswerLaws.{goes}
-use Rattle.answers.specs.Answers.{good}
 use Rattle.feeder.specs.File.{BranchWritable, FileWritable, LoadWritable, branch_names, branch_text, branches_text, file_of, load_names, load_text, loads_text, row_of_source, source_names, source_text}
 use Rattle.feeder.specs.FirstLines.{one-some}
 use Rattle.feeder.specs.Layout.{Rows, branch_row, branch_table, empty_line, file_end, layout, load_row, load_table, rows, source_table}
@@ -21,7 +20,7 @@ unfolding bytes
 feed-ends s at t e = rw (first-at s at, e) refl
 
 pub source-back : (x : Row) → Readable 1 8 x → (t : List ℕ) →
-    source_table ((bytes source_names ++ (row_text x ++ bytes "\n")) ++ t) ≡ good (x, length (bytes source_names ++ (row_text x ++ bytes "\n")))
+    source_table ((bytes source_names ++ (row_text x ++ bytes "\n")) ++ t) ≡ Ok (x, length (bytes source_names ++ (row_text x ++ bytes "\n")))
 unfolding source_table
 source-back x h t =
     let s : List ℕ = (bytes source_names ++ (row_text x ++ bytes "\n")) ++ t in
@@ -33,10 +32,10 @@ source-back x h t =
     let end : q + length (bytes "\n") ≡ length (bytes source_names ++ (row_text x ++ bytes "\n")) = simp length-append (omega arith) in
     goes (text _ _ s 0) _ _ _ (text-back _ _ s 0 _ c)
     (goes (row _ 1 8 s p) _ _ _ (row_back _ 1 8 x h s p (bytes "\n" ++ t) d)
-    (goes (text _ _ s q) _ _ _ (text-back _ _ s q t e) (ap (λ (n : ℕ). good (x, n)) end)))
+    (goes (text _ _ s q) _ _ _ (text-back _ _ s q t e) (ap (λ (n : ℕ). Ok (x, n)) end)))
 
 pub branches-back : (l : List BranchRow) → All BranchWritable l → (t : List ℕ) →
-    branch_table ((bytes branch_names ++ (joined branch_text l ++ bytes "\n")) ++ t) ≡ good (l, length (bytes branch_names ++ (joined branch_text l ++ bytes "\n")))
+    branch_table ((bytes branch_names ++ (joined branch_text l ++ bytes "\n")) ++ t) ≡ Ok (l, length (bytes branch_names ++ (joined branch_text l ++ bytes "\n")))
 unfolding branch_table
 branches-back l h t =
     let y : List ℕ = joined branch_text l in
@@ -49,9 +48,9 @@ branches-back l h t =
     let end : q + length (bytes "\n") ≡ length (bytes branch_names ++ (y ++ bytes "\n")) = simp length-append (omega arith) in
     goes (text _ _ s 0) _ _ _ (text-back _ _ s 0 _ c)
     (goes (rows branch_row _ s _ p (empty_line s)) _ _ _ (rows_back branch-rows l h _ s _ p (bytes "\n" ++ t) (omega (arith, one-some (bytes branch_names) branch-names)) d (feed-ends s q t e))
-    (goes (text _ _ s q) _ _ _ (text-back _ _ s q t e) (ap (λ (n : ℕ). good (l, n)) end)))
+    (goes (text _ _ s q) _ _ _ (text-back _ _ s q t e) (ap (λ (n : ℕ). Ok (l, n)) end)))
 
-loads-back : (line : ℕ) (l : List LoadRow) → All LoadWritable l → load_table line (bytes load_names ++ joined load_text l) ≡ good l
+loads-back : (line : ℕ) (l : List LoadRow) → All LoadWritable l → load_table line (bytes load_names ++ joined load_text l) ≡ Ok l
 unfolding load_table
 loads-back line l h =
     let y : List ℕ = joined load_text l in
@@ -63,7 +62,7 @@ loads-back line l h =
     (goes (rows load_row _ s _ p (file_end s)) _ _ _ (rows_back load-rows l h _ s _ p [] (omega (arith, one-some (bytes load_names) load-names)) d o) refl)
 
 -- the file is read back as the rows
-pub file-back : (r : Rows) → FileWritable r → layout (file_of r) ≡ good r
+pub file-back : (r : Rows) → FileWritable r → layout (file_of r) ≡ Ok r
 unfolding layout file_of source_text branches_text loads_text row_of_source
 file-back r h =
     let t : List ℕ = branches_text r ++ loads_text r in

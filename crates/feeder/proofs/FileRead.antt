@@ -1,9 +1,8 @@
 -- A file that is read is the one that its rows are written as, and these can be written: the format has one text for each feeder. Assumes nothing.
-use Rattle.std.specs.Prelude.{List, [], ◌++◌, ◌∷◌, ◌≡◌, refl, ◌<◌, ◌≤◌, ℕ, drop, get_or, length}
+use Rattle.std.specs.Prelude.{List, [], ◌++◌, ◌∷◌, ◌≡◌, refl, ◌<◌, ◌≤◌, ℕ, drop, get_or, length, Ok}
 use Rattle.std.proofs.Common.{append_assoc, append-nil, ◌∙◌, ap, subst, arith, drop_of_length-le, length-append, length-drop, eqb-true}
 use Prim.Native.String.{String}
 use Rattle.answers.specs.AnswerLaws.{bound, same_good}
-use Rattle.answers.specs.Answers.{good}
 use Rattle.answers.specs.declared.Refusal.{Refusal}
 use Rattle.feeder.specs.File.{BranchWritable, FileWritable, LoadWritable, branch_names, branch_text, branches_text, file_of, load_names, load_text, loads_text, row_of_source, source_names, source_text}
 use Rattle.feeder.specs.FirstLines.{OneLine, one-some}
@@ -14,19 +13,19 @@ use Rattle.feeder.proofs.TableRows.{branch-rows, load-rows, rows-read}
 use Rattle.feeder.specs.declared.BranchRow.{BranchRow}
 use Rattle.feeder.specs.declared.LoadRow.{LoadRow}
 use Rattle.integers.specs.Lists.{All}
-use Rattle.text.specs.Lines.{Placed, Row, row_text, text, word_of, Readable}
+use Rattle.text.specs.Lines.{Row, row_text, text, word_of, Readable}
 use Rattle.text.specs.RowText.{row-read, text-read, text-within}
-use Rattle.text.specs.Text.{bytes, joined}
+use Rattle.text.specs.Text.{bytes, joined, Placed}
 
 -- ---- the tables
 -- the place behind a table's line of names
-pub names-place : (r : Refusal) (w : String) (s : List ℕ) (p : ℕ) → OneLine (bytes w) → text r w s 0 ≡ good p → (0 < p) × (p ≤ length s)
+pub names-place : (r : Refusal) (w : String) (s : List ℕ) (p : ℕ) → OneLine (bytes w) → text r w s 0 ≡ Ok p → (0 < p) × (p ≤ length s)
 names-place r w s p o e =
     let k = one-some (bytes w) o in
     let n = text-within r w s 0 p k e in
     (omega (arith, k, n, ap length (text-read r w s 0 p e), length-append (bytes w) (drop p s), length-drop p s), n)
 
-pub source-read : (s : List ℕ) (x : Row) (p : ℕ) → source_table s ≡ good (x, p) → ReadAt (λ y. bytes source_names ++ (row_text y ++ bytes "\n")) (Readable 1 8) s 0 x p
+pub source-read : (s : List ℕ) (x : Row) (p : ℕ) → source_table s ≡ Ok (x, p) → ReadAt (λ y. bytes source_names ++ (row_text y ++ bytes "\n")) (Readable 1 8) s 0 x p
 unfolding source_table
 source-read s x p e =
     let a = bound {X = ℕ} _ _ (x, p) e in
@@ -39,7 +38,7 @@ source-read s x p e =
     subst (λ (z : Placed Row). ReadAt (λ y. bytes source_names ++ (row_text y ++ bytes "\n")) (Readable 1 8) s 0 z.0 z.1) (same_good (y, c.value) (x, p) c.rest)
     (record { stand = t ∙ simp append_assoc; writable = h.readable; within = text-within _ _ s b.value.1 c.value (one-some (bytes "\n") empty-line) c.came })
 
-pub branches-read : (s : List ℕ) (l : List BranchRow) (p : ℕ) → branch_table s ≡ good (l, p) → ReadAt (λ m. bytes branch_names ++ (joined branch_text m ++ bytes "\n")) (All BranchWritable) s 0 l p
+pub branches-read : (s : List ℕ) (l : List BranchRow) (p : ℕ) → branch_table s ≡ Ok (l, p) → ReadAt (λ m. bytes branch_names ++ (joined branch_text m ++ bytes "\n")) (All BranchWritable) s 0 l p
 unfolding branch_table
 branches-read s l p e =
     let a = bound {X = ℕ} _ _ (l, p) e in
@@ -53,7 +52,7 @@ branches-read s l p e =
     subst (λ (z : Placed (List BranchRow)). ReadAt (λ m. bytes branch_names ++ (joined branch_text m ++ bytes "\n")) (All BranchWritable) s 0 z.0 z.1) (same_good (m, c.value) (l, p) c.rest)
     (record { stand = w ∙ simp append_assoc; writable = h.writable; within = text-within _ _ s b.value.1 c.value (one-some (bytes "\n") empty-line) c.came })
 
-pub loads-read : (line : ℕ) (s : List ℕ) (l : List LoadRow) → load_table line s ≡ good l → All LoadWritable l × (s ≡ bytes load_names ++ joined load_text l)
+pub loads-read : (line : ℕ) (s : List ℕ) (l : List LoadRow) → load_table line s ≡ Ok l → All LoadWritable l × (s ≡ bytes load_names ++ joined load_text l)
 unfolding load_table
 loads-read line s l e =
     let a = bound {X = ℕ} _ _ l e in
@@ -72,7 +71,7 @@ one [] n = absurd (omega arith)
 one (a ∷ []) n = refl
 one (a ∷ (b ∷ l)) n = absurd (omega arith)
 
-pub file-read : (s : List ℕ) (r : Rows) → layout s ≡ good r → FileWritable r × (s ≡ file_of r)
+pub file-read : (s : List ℕ) (r : Rows) → layout s ≡ Ok r → FileWritable r × (s ≡ file_of r)
 unfolding layout file_of source_text branches_text loads_text row_of_source
 file-read s r e =
     let a = bound {X = Placed Row} _ _ r e in

@@ -1,5 +1,5 @@
 -- Where the reading of a file is refused: behind lines that can go on as a good file, at a line of which the bytes alone decide. Assumes nothing.
-use Rattle.std.specs.Prelude.{Bool, false, ◌≡◌, drop}
+use Rattle.std.specs.Prelude.{Bool, false, ◌≡◌, drop, Ok, Err}
 use mathlib.Core.List.{List, [], ◌++◌, ◌∷◌, append_assoc}
 use Rattle.std.proofs.Common.{◌∙◌, sym}
 use Rattle.std.proofs.Math.Path.{ap, refl, subst}
@@ -8,7 +8,7 @@ use Prim.Native.String.{String}
 use native.Mathlib.Omega.{arith}
 use Rattle.std.proofs.Math.ListN.{length, length-append, length-drop}
 use Rattle.answers.specs.AnswerLaws.{by-test, not_good, same-refused, stopped}
-use Rattle.answers.specs.Answers.{Outcome, good, refused}
+use Rattle.answers.specs.Answers.{Outcome}
 use Rattle.answers.specs.declared.Refusal.{Refusal}
 use Rattle.answers.specs.declared.Refusal.TheVariants.{Layout}
 use Rattle.feeder.specs.File.{line_feeds}
@@ -17,9 +17,9 @@ use Rattle.feeder.specs.Layout.{rows}
 use Rattle.feeder.proofs.LineReader.{LineReader}
 use Rattle.feeder.proofs.TableRows.{Table, row_room}
 use Rattle.integers.specs.Lists.{All}
-use Rattle.text.specs.Lines.{Placed, text}
+use Rattle.text.specs.Lines.{text}
 use Rattle.text.specs.RowText.{past, text-back, text-read}
-use Rattle.text.specs.Text.{begins, bytes, joined}
+use Rattle.text.specs.Text.{begins, bytes, joined, Placed}
 
 -- the text u, of which the first line is line n of its file, is refused with y at the line behind front: whatever has these lines in front and the same line
 -- behind them is refused so, and front goes on as a good text
@@ -60,57 +60,57 @@ pub told_at : (y : Refusal) (m n : ℕ) → y ≡ Layout m → m ≡ n → y ≡
 told_at y m n e q = e ∙ ap (λ (i : ℕ). Layout i) q
 
 -- ---- a line that is refused is refused wherever it stands
-pub text-told : (r : Refusal) (w : String) (s : List ℕ) (at : ℕ) (y : Refusal) → text r w s at ≡ refused y → y ≡ r
+pub text-told : (r : Refusal) (w : String) (s : List ℕ) (at : ℕ) (y : Refusal) → text r w s at ≡ Err y → y ≡ r
 unfolding text
-text-told r w s at y e = by-test (begins (bytes w) (drop at s)) _ _ (refused y) e (λ c g. not_good (at + length (bytes w)) y g) (λ c g. sym (same-refused r y g))
+text-told r w s at y e = by-test (begins (bytes w) (drop at s)) _ _ (Err y) e (λ c g. not_good (at + length (bytes w)) y g) (λ c g. sym (same-refused r y g))
 
-pub text-again : (r : Refusal) (w : String) (s : List ℕ) (at : ℕ) (y : Refusal) → OneLine (bytes w) → text r w s at ≡ refused y →
-    (u : List ℕ) → SameLine (drop at s) u → (t : List ℕ) (p : ℕ) → drop p t ≡ u → (x : Refusal) → text x w t p ≡ refused x
+pub text-again : (r : Refusal) (w : String) (s : List ℕ) (at : ℕ) (y : Refusal) → OneLine (bytes w) → text r w s at ≡ Err y →
+    (u : List ℕ) → SameLine (drop at s) u → (t : List ℕ) (p : ℕ) → drop p t ≡ u → (x : Refusal) → text x w t p ≡ Err x
 text-again r w s at y o e u q t p d x = go (text x w t p) refl
   where
-    go : (z : Outcome ℕ) → text x w t p ≡ z → text x w t p ≡ refused x
-    go (good n) c =
+    go : (z : Outcome ℕ) → text x w t p ≡ z → text x w t p ≡ Err x
+    go (Ok n) c =
         let k = same-begins (bytes w) (drop at s) (drop n t) o (rw (sym d ∙ text-read x w t p n c) at q) in
         not_good (at + length (bytes w)) y (sym (text-back r w s at k.0 k.1) ∙ e)
-    go (refused z) c = c ∙ ap (λ (i : Refusal). refused i) (text-told x w t p z c)
+    go (Err z) c = c ∙ ap (λ (i : Refusal). Err i) (text-told x w t p z c)
 
 pub line-again : {X : Type 0} {read : Refusal → List ℕ → ℕ → Outcome (Placed X)} {written : X → List ℕ} {Writable : X → Type 0} → LineReader read written Writable →
-    (r : Refusal) (s : List ℕ) (at : ℕ) (y : Refusal) → read r s at ≡ refused y →
-    (u : List ℕ) → SameLine (drop at s) u → (t : List ℕ) (p : ℕ) → drop p t ≡ u → (x : Refusal) → read x t p ≡ refused x
+    (r : Refusal) (s : List ℕ) (at : ℕ) (y : Refusal) → read r s at ≡ Err y →
+    (u : List ℕ) → SameLine (drop at s) u → (t : List ℕ) (p : ℕ) → drop p t ≡ u → (x : Refusal) → read x t p ≡ Err x
 line-again {X} {read} {written} reader r s at y e u q t p d x = go (read x t p) refl
   where
-    go : (z : Outcome (Placed X)) → read x t p ≡ z → read x t p ≡ refused x
-    go (good (v, n)) c =
+    go : (z : Outcome (Placed X)) → read x t p ≡ z → read x t p ≡ Err x
+    go (Ok (v, n)) c =
         let h = reader.stands x t p v n c in
         let k = same-begins (written v) (drop at s) (drop n t) (reader.line v h.writable) (rw (sym d ∙ h.stand) at q) in
         not_good (v, at + length (written v)) y (sym (reader.back r v h.writable s at k.0 k.1) ∙ e)
-    go (refused z) c = c ∙ ap (λ (i : Refusal). refused i) (reader.told x t p z c)
+    go (Err z) c = c ∙ ap (λ (i : Refusal). Err i) (reader.told x t p z c)
 
 -- ---- the rows of a table, wherever they stand and with any bound that reaches their end
 module _ {X : Type 0} {read : Refusal → List ℕ → ℕ → Outcome (Placed X)} {over : List ℕ → ℕ → Bool} {written : X → List ℕ} {Writable : X → Type 0} (table : Table read over written Writable) where
   abbrev pub RowsRefused : ℕ → Refusal → List ℕ → Type 0
-  RowsRefused line y u = (s : List ℕ) (at : ℕ) → drop at s ≡ u → (f : ℕ) → length s < f + at → rows read f s line at (over s) ≡ refused y
+  RowsRefused line y u = (s : List ℕ) (at : ℕ) → drop at s ≡ u → (f : ℕ) → length s < f + at → rows read f s line at (over s) ≡ Err y
 
   -- at a line that is no row, and behind a row
-  rows-here : (line : ℕ) (y r : Refusal) (s : List ℕ) (at : ℕ) → over s at ≡ false → read r s at ≡ refused y → y ≡ Layout line → (u : List ℕ) → SameLine (drop at s) u → RowsRefused line y u
+  rows-here : (line : ℕ) (y r : Refusal) (s : List ℕ) (at : ℕ) → over s at ≡ false → read r s at ≡ Err y → y ≡ Layout line → (u : List ℕ) → SameLine (drop at s) u → RowsRefused line y u
   unfolding rows
   rows-here line y r s at o e z u q t p d zero b = absurd (omega (arith, same_some (drop at s) u q, ap length d, length-drop p t))
-  rows-here line y r s at o e z u q t p d (suc f) b = rw (table.seen s at t p (rw (sym d) at q) o, line-again table.reader r s at y e u q t p d) (ap (λ (x : Refusal). refused x) (sym z))
+  rows-here line y r s at o e z u q t p d (suc f) b = rw (table.seen s at t p (rw (sym d) at q) o, line-again table.reader r s at y e u q t p d) (ap (λ (x : Refusal). Err x) (sym z))
 
   rows_behind : (line : ℕ) (y : Refusal) (x : X) → Writable x → (u : List ℕ) → RowsRefused (line + 1) y u → RowsRefused line y (written x ++ u)
   unfolding rows
   rows_behind line y x h u k s at d zero b = let m = row_room table x h s at u d in absurd (omega (arith, m.0, m.1))
   rows_behind line y x h u k s at d (suc f) b =
       let m = row_room table x h s at u d in
-      let r : (z : Refusal) → read z s at ≡ good (x, at + length (written x)) = λ z. table.reader.back z x h s at u d in
+      let r : (z : Refusal) → read z s at ≡ Ok (x, at + length (written x)) = λ z. table.reader.back z x h s at u d in
       rw (table.going x h s at u d, r, k s (at + length (written x)) (past s at (written x) u d) f (omega (arith, m.0))) refl
 
-  pub rows-fault : (y : Refusal) (Good : List ℕ → Type 0) (f : ℕ) (s : List ℕ) (n line at : ℕ) → length s < f + at → rows read f s line at (over s) ≡ refused y → line ≡ n →
+  pub rows-fault : (y : Refusal) (Good : List ℕ → Type 0) (f : ℕ) (s : List ℕ) (n line at : ℕ) → length s < f + at → rows read f s line at (over s) ≡ Err y → line ≡ n →
       (more : List ℕ) → ((l : List X) → All Writable l → Good (joined written l ++ more)) → Fault (RowsRefused line y) Good n (drop at s) y
   unfolding rows joined
   rows-fault y Good zero s n line at b e z more g = not_good ([], at) y e
   rows-fault y Good (suc f) s n line at b e z more g =
-      by-test (over s at) _ _ (refused y) e (λ o d. not_good ([], at) y d) (λ o d. stopped (read _ s at) _ y d
+      by-test (over s at) _ _ (Err y) e (λ o d. not_good ([], at) y d) (λ o d. stopped (read _ s at) _ y d
       (λ c. let a = table.reader.told _ s at y c in here n (drop at s) (told_at y _ n a (omega arith)) (rows-here line y _ s at o c (told_at y _ line a (omega arith))) more (g [] tt))
       (λ v c m. stopped (rows read f s _ v.1 (over s)) _ y m
       (λ i.

@@ -1,9 +1,9 @@
 -- 10 and its line: a file is refused for its layout with just the first line that cannot go on a good file, or the line where it ends early. Assumes nothing.
-use Rattle.std.specs.Prelude.{List, [], ◌++◌, ◌⊎◌, ◌≡◌, refl, ◌+◌, ◌-◌, ◌<◌, suc, ℕ}
+use Rattle.std.specs.Prelude.{List, [], ◌++◌, ◌⊎◌, ◌≡◌, refl, ◌+◌, ◌-◌, ◌<◌, suc, ℕ, Ok, Err}
 use Rattle.std.proofs.Common.{append_assoc, append-nil, inl, inr, ⊎_elim, ◌∙◌, ap, subst, sym, arith}
 use Rattle.std.proofs.Math.Decide.{dec_lt}
 use Rattle.answers.specs.AnswerLaws.{not_good}
-use Rattle.answers.specs.Answers.{Outcome, good, refused}
+use Rattle.answers.specs.Answers.{Outcome}
 use Rattle.answers.specs.declared.Refusal.{Refusal}
 use Rattle.answers.specs.declared.Refusal.TheVariants.{Layout}
 use Rattle.feeder.specs.File.{FileWritable, GoesOn, StopsAt, WellLaid, file_of, first_lines, line_feeds}
@@ -15,21 +15,21 @@ use Rattle.feeder.proofs.LayoutFault.{Fault}
 use Rattle.feeder.proofs.TableFaults.{layout-fault}
 
 -- a file is good just where it is the text of rows that can be written, and these are the rows that are read
-pub layout-good : (s : List ℕ) (r : Rows) → (layout s ≡ good r → FileWritable r × (s ≡ file_of r)) × (FileWritable r → s ≡ file_of r → layout s ≡ good r)
+pub layout-good : (s : List ℕ) (r : Rows) → (layout s ≡ Ok r → FileWritable r × (s ≡ file_of r)) × (FileWritable r → s ≡ file_of r → layout s ≡ Ok r)
 layout-good s r = (file-read s r, λ h e. ap layout e ∙ file-back r h)
 
-pub laid-good : (s : List ℕ) (w : WellLaid s) → layout s ≡ good w.rows
+pub laid-good : (s : List ℕ) (w : WellLaid s) → layout s ≡ Ok w.rows
 laid-good s w = (layout-good s w.rows).1 w.writable w.text
 
 -- every other file is refused with 10 and a line
-pub layout-refused : (s : List ℕ) (x : Refusal) → layout s ≡ refused x → (n : ℕ) × (x ≡ Layout n)
+pub layout-refused : (s : List ℕ) (x : Refusal) → layout s ≡ Err x → (n : ℕ) × (x ≡ Layout n)
 layout-refused s x e = let f = layout-fault s x e in (1 + line_feeds f.front, f.told)
 
 same_line : (m n : ℕ) → Layout m ≡ Layout n → m ≡ n
 same_line m n e = cc
 
 -- the line that is told is the first that cannot go on a good file, or the one where the file ends early
-pub line-of-10 : (s : List ℕ) (n : ℕ) → layout s ≡ refused (Layout n) → StopsAt s n
+pub line-of-10 : (s : List ℕ) (n : ℕ) → layout s ≡ Err (Layout n) → StopsAt s n
 line-of-10 s n e =
     let f = layout-fault s (Layout n) e in
     let m : n ≡ 1 + line_feeds f.front = same_line n (1 + line_feeds f.front) f.told in
@@ -37,7 +37,7 @@ line-of-10 s n e =
     let a : first_lines (n - 1) s ≡ f.front = ap (λ (i : ℕ). first_lines i s) k ∙ ap (first_lines (line_feeds f.front)) f.split ∙ ended-whole f.front f.rest f.ended in
     record { counted = omega arith; before = subst GoesOn (sym a) (record { rest = f.more; whole = f.goes }); here = by f m (dec_lt 0 (line_feeds f.rest)) }
   where
-    by : (f : Fault (λ t. layout t ≡ refused (Layout n)) WellLaid 1 s (Layout n)) → n ≡ 1 + line_feeds f.front → Dec (0 < line_feeds f.rest) →
+    by : (f : Fault (λ t. layout t ≡ Err (Layout n)) WellLaid 1 s (Layout n)) → n ≡ 1 + line_feeds f.front → Dec (0 < line_feeds f.rest) →
         (GoesOn (first_lines n s) → ⊥) ⊎ ((suc (line_feeds s) ≡ n) × (WellLaid s → ⊥))
     by f m (yes h) = inl (λ g.
         let z : first_lines n s ≡ f.front ++ first_lines 1 f.rest = ap (λ (i : ℕ). first_lines i s) m ∙ ap (first_lines (1 + line_feeds f.front)) f.split ∙ f.ended 1 f.rest in
@@ -64,7 +64,7 @@ one-stop s n m q a b = ⊎_elim
     a.here
 
 -- and it is told
-pub stops-at-10 : (s : List ℕ) (n : ℕ) → StopsAt s n → layout s ≡ refused (Layout n)
+pub stops-at-10 : (s : List ℕ) (n : ℕ) → StopsAt s n → layout s ≡ Err (Layout n)
 stops-at-10 s n h = go (layout s) refl
   where
     not-laid : WellLaid s → ⊥
@@ -78,9 +78,9 @@ stops-at-10 s n h = go (layout s) refl
     same m k (no p) (yes q) = absurd (one-stop s m n q k h)
     same m k (no p) (no q) = omega arith
 
-    go : (x : Outcome Rows) → layout s ≡ x → layout s ≡ refused (Layout n)
-    go (good r) e = let f = (layout-good s r).0 e in absurd (not-laid (record { rows = r; writable = f.0; text = f.1 }))
-    go (refused x) e =
+    go : (x : Outcome Rows) → layout s ≡ x → layout s ≡ Err (Layout n)
+    go (Ok r) e = let f = (layout-good s r).0 e in absurd (not-laid (record { rows = r; writable = f.0; text = f.1 }))
+    go (Err x) e =
         let m = layout-refused s x e in
-        let c : layout s ≡ refused (Layout m.0) = e ∙ ap (λ (z : Refusal). refused z) m.1 in
-        c ∙ ap (λ (i : ℕ). refused (Layout i)) (same m.0 (line-of-10 s m.0 c) (dec_lt n m.0) (dec_lt m.0 n))
+        let c : layout s ≡ Err (Layout m.0) = e ∙ ap (λ (z : Refusal). Err z) m.1 in
+        c ∙ ap (λ (i : ℕ). Err (Layout i)) (same m.0 (line-of-10 s m.0 c) (dec_lt n m.0) (dec_lt m.0 n))

@@ -1,8 +1,8 @@
 -- The readers of one line: what each reads is the line of a row that can be written, and the line of such a row is read as the row. Assumes nothing.
-use Rattle.std.specs.Prelude.{Bool, false, true, List, [], ◌++◌, ◌∷◌, ◌≡◌, refl, ◌+◌, ◌≤◌, suc, zero, ℕ, eqb, pos, ℤ, drop, get_or, length}
+use Rattle.std.specs.Prelude.{Bool, false, true, List, [], ◌++◌, ◌∷◌, ◌≡◌, refl, ◌+◌, ◌≤◌, suc, zero, ℕ, eqb, pos, ℤ, drop, get_or, length, Ok, Err, Option, Some, None}
 use Rattle.std.proofs.Common.{◌∙◌, ap, subst, sym, arith, eqb-true}
 use Rattle.answers.specs.AnswerLaws.{bound, not-refused, same_good, by-test, not_good, same-refused, stopped}
-use Rattle.answers.specs.Answers.{Outcome, ◌>>=◌, good, refused}
+use Rattle.answers.specs.Answers.{Outcome, ◌>>=◌}
 use Rattle.answers.specs.declared.Refusal.{Refusal}
 use Rattle.feeder.specs.File.{BranchWritable, LoadWritable, branch_text, kind_word, load_text, load_word, phase_word, phases_word, row_of_branch, row_of_load}
 use Rattle.feeder.specs.FirstLines.{OneLine}
@@ -14,18 +14,14 @@ use Rattle.feeder.specs.declared.Kind.TheVariants.{D, L, R, Y}
 use Rattle.feeder.specs.declared.LoadKind.{LoadKind}
 use Rattle.feeder.specs.declared.LoadKind.TheVariants.{Current, Impedance, Power}
 use Rattle.feeder.specs.declared.LoadRow.{LoadRow}
-use Rattle.feeder.specs.declared.Phases.{Phases}
+use Rattle.feeder.specs.Phased.{Phases}
 use Rattle.feeder.specs.declared.Terminals.{Terminals}
 use Rattle.feeder.specs.declared.Terminals.TheVariants.{AB, BC, CA, OnA, OnB, OnC}
 use Rattle.integers.specs.Bools.{clash}
 use Rattle.integers.specs.Lists.{All}
-use Rattle.text.specs.Lines.{Placed, Row, got_name, got_number, listed, names, nth, numbers, row, row_text, sep_of, word_of, Readable}
+use Rattle.text.specs.Lines.{Row, got, listed, names, nth, numbers, row, row_text, sep_of, word_of, Readable}
 use Rattle.text.specs.RowText.{put, row_back, row-read}
-use Rattle.text.specs.Text.{bytes, name_at, number_at, pack, word}
-use Rattle.text.specs.declared.Field.{Field}
-use Rattle.text.specs.declared.Field.TheVariants.{NotNumber, Number}
-use Rattle.text.specs.declared.Word.{Word}
-use Rattle.text.specs.declared.Word.TheVariants.{Name, NoName}
+use Rattle.text.specs.Text.{bytes, name_at, number_at, pack, word, Placed}
 
 -- x was read at a place of s, and p is the place behind it
 pub record ReadAt {X : Type 0} (written : X → List ℕ) (Writable : X → Type 0) (s : List ℕ) (at : ℕ) (x : X) (p : ℕ) : Type 0 where
@@ -35,32 +31,32 @@ pub record ReadAt {X : Type 0} (written : X → List ℕ) (Writable : X → Type
 
 -- a reader of one line: it refuses with what it is given, and neither an empty line nor a part of a line is a row
 pub record LineReader {X : Type 0} (read : Refusal → List ℕ → ℕ → Outcome (Placed X)) (written : X → List ℕ) (Writable : X → Type 0) : Type 0 where
-  pub back : (r : Refusal) (x : X) → Writable x → (s : List ℕ) (at : ℕ) (t : List ℕ) → drop at s ≡ written x ++ t → read r s at ≡ good (x, at + length (written x))
-  pub stands : (r : Refusal) (s : List ℕ) (at : ℕ) (x : X) (p : ℕ) → read r s at ≡ good (x, p) → ReadAt written Writable s at x p
-  pub told : (r : Refusal) (s : List ℕ) (at : ℕ) (y : Refusal) → read r s at ≡ refused y → y ≡ r
+  pub back : (r : Refusal) (x : X) → Writable x → (s : List ℕ) (at : ℕ) (t : List ℕ) → drop at s ≡ written x ++ t → read r s at ≡ Ok (x, at + length (written x))
+  pub stands : (r : Refusal) (s : List ℕ) (at : ℕ) (x : X) (p : ℕ) → read r s at ≡ Ok (x, p) → ReadAt written Writable s at x p
+  pub told : (r : Refusal) (s : List ℕ) (at : ℕ) (y : Refusal) → read r s at ≡ Err y → y ≡ r
   pub line : (x : X) → Writable x → OneLine (written x)
   pub first : (x : X) → Writable x → (t : List ℕ) → eqb (get_or (written x ++ t) 0 0) 10 ≡ false
 
 -- ---- a row
-names-told : (r : Refusal) (m : ℕ) (s : List ℕ) (at : ℕ) (y : Refusal) → names r m s at ≡ refused y → y ≡ r
+names-told : (r : Refusal) (m : ℕ) (s : List ℕ) (at : ℕ) (y : Refusal) → names r m s at ≡ Err y → y ≡ r
 unfolding names
 names-told r zero s at y e = not_good ([], at) y e
 names-told r (suc m) s at y e = by (name_at 44 s at) e (names-told r m s)
   where
-    by : (x : Word) → (got_name r x >>= λ z. names r m s z.1 >>= put z.0) ≡ refused y → ((q : ℕ) (w : Refusal) → names r m s q ≡ refused w → w ≡ r) → y ≡ r
-    by (Name v q) g ih = stopped (names r m s q) (put v) y g (ih q y) (λ z c h. not_good _ y h)
-    by NoName g ih = sym (same-refused r y g)
+    by : (x : Option (Placed ℕ)) → (got r x >>= λ z. names r m s z.1 >>= put z.0) ≡ Err y → ((q : ℕ) (w : Refusal) → names r m s q ≡ Err w → w ≡ r) → y ≡ r
+    by (Some (v, q)) g ih = stopped (names r m s q) (put v) y g (ih q y) (λ z c h. not_good _ y h)
+    by None g ih = sym (same-refused r y g)
 
-numbers-told : (r : Refusal) (n : ℕ) (s : List ℕ) (at : ℕ) (y : Refusal) → numbers r n s at ≡ refused y → y ≡ r
+numbers-told : (r : Refusal) (n : ℕ) (s : List ℕ) (at : ℕ) (y : Refusal) → numbers r n s at ≡ Err y → y ≡ r
 unfolding numbers
 numbers-told r zero s at y e = not_good ([], at) y e
 numbers-told r (suc n) s at y e = by (number_at (sep_of n) s at) e (numbers-told r n s)
   where
-    by : (x : Field) → (got_number r x >>= λ z. numbers r n s z.1 >>= put z.0) ≡ refused y → ((q : ℕ) (w : Refusal) → numbers r n s q ≡ refused w → w ≡ r) → y ≡ r
-    by (Number v q) g ih = stopped (numbers r n s q) (put v) y g (ih q y) (λ z c h. not_good _ y h)
-    by NotNumber g ih = sym (same-refused r y g)
+    by : (x : Option (Placed ℤ)) → (got r x >>= λ z. numbers r n s z.1 >>= put z.0) ≡ Err y → ((q : ℕ) (w : Refusal) → numbers r n s q ≡ Err w → w ≡ r) → y ≡ r
+    by (Some (v, q)) g ih = stopped (numbers r n s q) (put v) y g (ih q y) (λ z c h. not_good _ y h)
+    by None g ih = sym (same-refused r y g)
 
-row_told : (r : Refusal) (m n : ℕ) (s : List ℕ) (at : ℕ) (y : Refusal) → row r m n s at ≡ refused y → y ≡ r
+row_told : (r : Refusal) (m n : ℕ) (s : List ℕ) (at : ℕ) (y : Refusal) → row r m n s at ≡ Err y → y ≡ r
 unfolding row
 row_told r m n s at y e =
     stopped {X = Placed (List ℕ)} _ _ y e (names-told r m s at y) (λ x c h. stopped {X = Placed (List ℤ)} _ _ y h (numbers-told r n s x.1 y) (λ z d g. not_good _ y g))
@@ -75,16 +71,16 @@ row-reader m n = record {
 }
 
 -- ---- the words of a column: what is listed is written so, and what is written is listed
-listed-as : {X : Type 0} (P : ℕ → X → Type 0) (r : Refusal) (w : ℕ) (l : List (ℕ × X)) (x : X) → All (λ y. P y.0 y.1) l → listed r w l ≡ good x → P w x
+listed-as : {X : Type 0} (P : ℕ → X → Type 0) (r : Refusal) (w : ℕ) (l : List (ℕ × X)) (x : X) → All (λ y. P y.0 y.1) l → listed r w l ≡ Ok x → P w x
 unfolding listed
 listed-as P r w [] x a e = not-refused r x e
 listed-as P r w (y ∷ l) x a e =
-    by-test (eqb w y.0) _ _ (good x) e (λ q g. subst (P w) (same_good y.1 x g) (subst (λ (v : ℕ). P v y.1) (sym (eqb-true w y.0 q)) a.0)) (λ q g. listed-as P r w l x a.1 g)
+    by-test (eqb w y.0) _ _ (Ok x) e (λ q g. subst (P w) (same_good y.1 x g) (subst (λ (v : ℕ). P v y.1) (sym (eqb-true w y.0 q)) a.0)) (λ q g. listed-as P r w l x a.1 g)
 
-listed-told : {X : Type 0} (r : Refusal) (w : ℕ) (l : List (ℕ × X)) (y : Refusal) → listed r w l ≡ refused y → y ≡ r
+listed-told : {X : Type 0} (r : Refusal) (w : ℕ) (l : List (ℕ × X)) (y : Refusal) → listed r w l ≡ Err y → y ≡ r
 unfolding listed
 listed-told r w [] y e = sym (same-refused r y e)
-listed-told r w (x ∷ l) y e = by-test (eqb w x.0) _ _ (refused y) e (λ q g. not_good x.1 y g) (λ q g. listed-told r w l y g)
+listed-told r w (x ∷ l) y e = by-test (eqb w x.0) _ _ (Err y) e (λ q g. not_good x.1 y g) (λ q g. listed-told r w l y g)
 
 abbrev Phased : Phases → Type 0
 Phased f = (f.a ≡ true → ⊥) → (f.b ≡ true → ⊥) → (f.c ≡ true → ⊥) → ⊥
@@ -94,7 +90,7 @@ unfolding phases_word word pack bytes
 phases-listed =
     ((refl, λ x y z. x refl), ((refl, λ x y z. y refl), ((refl, λ x y z. z refl), ((refl, λ x y z. x refl), ((refl, λ x y z. x refl), ((refl, λ x y z. y refl), ((refl, λ x y z. x refl), tt)))))))
 
-phases-back : (r : Refusal) (a b c : Bool) → Phased (record { a = a; b = b; c = c }) → listed r (phases_word (record { a = a; b = b; c = c })) phases_words ≡ good (record { a = a; b = b; c = c })
+phases-back : (r : Refusal) (a b c : Bool) → Phased (record { a = a; b = b; c = c }) → listed r (phases_word (record { a = a; b = b; c = c })) phases_words ≡ Ok (record { a = a; b = b; c = c })
 unfolding listed phases_word word pack bytes
 phases-back r true true true h = refl
 phases-back r true true false h = refl
@@ -109,7 +105,7 @@ kinds-listed : All (λ y. y.0 ≡ kind_word y.1) kind_words
 unfolding kind_word
 kinds-listed = (refl, (refl, (refl, (refl, tt))))
 
-kind-back : (r : Refusal) (k : Kind) → listed r (kind_word k) kind_words ≡ good k
+kind-back : (r : Refusal) (k : Kind) → listed r (kind_word k) kind_words ≡ Ok k
 unfolding listed kind_word word pack bytes
 kind-back r L = refl
 kind-back r R = refl
@@ -120,7 +116,7 @@ phase-listed : All (λ y. y.0 ≡ phase_word y.1) phase_words
 unfolding phase_word
 phase-listed = (refl, (refl, (refl, (refl, (refl, (refl, tt))))))
 
-phase-back : (r : Refusal) (p : Terminals) → listed r (phase_word p) phase_words ≡ good p
+phase-back : (r : Refusal) (p : Terminals) → listed r (phase_word p) phase_words ≡ Ok p
 unfolding listed phase_word word pack bytes
 phase-back r OnA = refl
 phase-back r OnB = refl
@@ -133,7 +129,7 @@ loads-listed : All (λ y. y.0 ≡ load_word y.1) load_words
 unfolding load_word
 loads-listed = (refl, (refl, (refl, tt)))
 
-load-kind-back : (r : Refusal) (k : LoadKind) → listed r (load_word k) load_words ≡ good k
+load-kind-back : (r : Refusal) (k : LoadKind) → listed r (load_word k) load_words ≡ Ok k
 unfolding listed load_word word pack bytes
 load-kind-back r Power = refl
 load-kind-back r Current = refl
@@ -155,7 +151,7 @@ three z (a ∷ b ∷ []) n = absurd (omega arith)
 three z (a ∷ b ∷ c ∷ []) n = refl
 three z (a ∷ b ∷ c ∷ (d ∷ l)) n = absurd (omega arith)
 
-branch-stands : (r : Refusal) (s : List ℕ) (at : ℕ) (b : BranchRow) (p : ℕ) → branch_row r s at ≡ good (b, p) → ReadAt branch_text BranchWritable s at b p
+branch-stands : (r : Refusal) (s : List ℕ) (at : ℕ) (b : BranchRow) (p : ℕ) → branch_row r s at ≡ Ok (b, p) → ReadAt branch_text BranchWritable s at b p
 unfolding branch_row row_of_branch
 branch-stands r s at b p e =
     let a = bound {X = Placed Row} _ _ (b, p) e in
@@ -174,7 +170,7 @@ branch-stands r s at b p e =
       within = h.within;
     })
 
-branch-told : (r : Refusal) (s : List ℕ) (at : ℕ) (y : Refusal) → branch_row r s at ≡ refused y → y ≡ r
+branch-told : (r : Refusal) (s : List ℕ) (at : ℕ) (y : Refusal) → branch_row r s at ≡ Err y → y ≡ r
 unfolding branch_row
 branch-told r s at y e =
     stopped {X = Placed Row} _ _ y e (row_told r 4 12 s at y) (λ x c f.
@@ -192,7 +188,7 @@ branch-reader = record {
 }
 
 -- ---- a line of the loads
-load-stands : (r : Refusal) (s : List ℕ) (at : ℕ) (l : LoadRow) (p : ℕ) → load_row r s at ≡ good (l, p) → ReadAt load_text LoadWritable s at l p
+load-stands : (r : Refusal) (s : List ℕ) (at : ℕ) (l : LoadRow) (p : ℕ) → load_row r s at ≡ Ok (l, p) → ReadAt load_text LoadWritable s at l p
 unfolding load_row row_of_load
 load-stands r s at l p e =
     let a = bound {X = Placed Row} _ _ (l, p) e in
@@ -210,7 +206,7 @@ load-stands r s at l p e =
     subst (λ (y : Placed LoadRow). ReadAt load_text LoadWritable s at y.0 y.1) (same_good (made, n) (l, p) d.rest)
     (record { stand = h.stand ∙ ap (λ (y : Row). row_text y ++ drop n s) z; writable = subst (Readable 3 3) z h.readable; within = h.within })
 
-load_told : (r : Refusal) (s : List ℕ) (at : ℕ) (y : Refusal) → load_row r s at ≡ refused y → y ≡ r
+load_told : (r : Refusal) (s : List ℕ) (at : ℕ) (y : Refusal) → load_row r s at ≡ Err y → y ≡ r
 unfolding load_row
 load_told r s at y e =
     stopped {X = Placed Row} _ _ y e (row_told r 3 3 s at y) (λ x c f.

@@ -1,6 +1,6 @@
 -- Nodes by their names (Faults) and by their numbers (Feeder): which names are nodes, which row feeds a node, which nodes are reached, and which phases a node
 -- has. Where each node stands once as "to", the two ways to speak of nodes say the same. Assumes nothing.
-use Rattle.std.specs.Prelude.{Bool, cond, List, [], ◌∷◌, ◌≡◌, eqb}
+use Rattle.std.specs.Prelude.{Bool, cond, List, [], ◌∷◌, ◌≡◌, eqb, None}
 use Rattle.std.proofs.Math.Bool.{false, not, true}
 use Rattle.std.proofs.Common.{inl, inr, ◌∙◌, subst, sym, arith}
 use Rattle.std.proofs.Math.Logic.{⊎_elim}
@@ -10,7 +10,6 @@ use Rattle.std.proofs.Math.Dec.{ltb}
 use Rattle.std.proofs.Math.ListN.{get_or, length}
 use Rattle.std.proofs.lemmas.List.{length-map}
 use borrow.Author.Tests.{eq-eqb, eqb-true, ltb-false, ltb-true, not-false}
-use Rattle.answers.specs.declared.Found.TheVariants.{Nothing}
 use Rattle.feeder.specs.Faults.{FromSource, IsNode, PhaseAt, Stands, along, is-source}
 use Rattle.feeder.specs.Feeder.{above, branch_at, feeder_of, has, known, nodes_of, parent, phases_of, place_of, row_count, second_to, unknown_from}
 use Rattle.feeder.proofs.FeederLaws.{branch-is, parent-among, row-count}
@@ -125,7 +124,7 @@ module _ (r : Rows) where
     pub once : {k : ℕ} {b : BranchRow} → Stands r.branches k b → number b.to ≡ k
     pub among : (k : ℕ) → k < suc (row_count (feeder_of r)) → parent (feeder_of r) k < suc (row_count (feeder_of r))
 
-  pub each-once : unknown_from r ≡ Nothing → second_to r ≡ Nothing → EachOnce
+  pub each-once : unknown_from r ≡ None → second_to r ≡ None → EachOnce
   unfolding unknown_from second_to
   each-once t20 t21 = record {
     parents = λ {k} {b} h.

@@ -1,8 +1,7 @@
 -- Every node of a feeder that is read has a name of 1 to 8 letters. Assumes nothing.
-use Rattle.std.specs.Prelude.{List, ◌≡◌, ◌<◌, suc, ℕ, get_or, length}
+use Rattle.std.specs.Prelude.{List, ◌≡◌, ◌<◌, suc, ℕ, get_or, length, Ok}
 use Rattle.std.proofs.Common.{◌∙◌, ap, subst, sym, arith}
 use Rattle.std.proofs.lemmas.List.{length-map}
-use Rattle.answers.specs.Answers.{good}
 use Rattle.feeder.specs.Feeder.{Feeder, feeder_of, nodes_of, row_count}
 use Rattle.feeder.proofs.FeederLaws.{Sound, row-count}
 use Rattle.feeder.specs.File.{row_of_branch, row_of_source}
@@ -13,7 +12,7 @@ use Rattle.integers.specs.Lists.{All}
 use Rattle.text.specs.Text.{Proper}
 
 -- the names of rows that can be written are names
-layout-proper : (s : List ℕ) (r : Rows) → layout s ≡ good r → All Proper (nodes_of r)
+layout-proper : (s : List ℕ) (r : Rows) → layout s ≡ Ok r → All Proper (nodes_of r)
 unfolding nodes_of row_of_source row_of_branch
 layout-proper s r e =
     let h = (file-read s r e).0 in

@@ -1,11 +1,10 @@
 -- What 11 and 23 give of each row of a feeder that was read. Assumes nothing.
-use Rattle.std.specs.Prelude.{Bool, ◌&&◌, cond, false, not, true, List, ◌≡◌, refl, ◌+◌, ◌<◌, ◌≤◌, suc, zero, ℕ, leb, ltb, ◌-ℤ◌, nat_abs, neg_ℤ, pos, ℤ, get_or, length}
+use Rattle.std.specs.Prelude.{Bool, ◌&&◌, cond, false, not, true, List, ◌≡◌, refl, ◌+◌, ◌<◌, ◌≤◌, suc, zero, ℕ, leb, ltb, ◌-ℤ◌, nat_abs, neg_ℤ, pos, ℤ, get_or, length, None}
 use Rattle.std.proofs.Common.{ap, subst, arith, leb-false, leb-true}
 use Rattle.std.proofs.Math.Decide.{dec_lt}
 use Rattle.std.proofs.Math.ListN.{get_or-eq_default}
 use Rattle.std.specs.Int.Signed.{le_z}
 use Rattle.std.proofs.lemmas.Bool.{not-false}
-use Rattle.answers.specs.declared.Found.TheVariants.{Nothing}
 use Rattle.feeder.specs.Feeder.{Feeder, above, all_of, all_phases, between, branch_at, branch_in, branch_of, column_of, device_of, feeder_of, has, in_limit, load_in, load_of, no_branch, no_phases, nodes_of, out_of_limit, parent, phase_absent, phases_of, place_of, row_count, rows_of, stands_on, three_phase, vn_most}
 use Rattle.feeder.proofs.FeederLaws.{Reached, Sound, branch-is, node-reached, parent-known, row-count, row_of}
 use Rattle.feeder.specs.Layout.{Rows}
@@ -20,7 +19,7 @@ use Rattle.feeder.specs.declared.Load.{Load}
 use Rattle.feeder.specs.declared.LoadRow.{LoadRow}
 use Rattle.feeder.specs.declared.Phase.{Phase}
 use Rattle.feeder.specs.declared.Phase.TheVariants.{A, B, C}
-use Rattle.feeder.specs.declared.Phases.{Phases}
+use Rattle.feeder.specs.Phased.{Phases}
 use Rattle.feeder.specs.declared.Terminals.{Terminals}
 use Rattle.feeder.specs.declared.Terminals.TheVariants.{AB, BC, CA, OnA, OnB, OnC}
 use Rattle.integers.specs.Bools.{both, clash}
@@ -89,14 +88,14 @@ from_is : (r : Rows) (j : ℕ) → j < length r.branches → (d : BranchRow) →
 from_is r j q d = let z : 1 + j ≡ suc j = omega arith in rw z (ap (λ (b : Branch). b.from) (branch-is r j q d))
 
 -- a row past the last place has 11
-pub few-branches : (r : Rows) → out_of_limit r ≡ Nothing → length r.branches ≤ 200
+pub few-branches : (r : Rows) → out_of_limit r ≡ None → length r.branches ≤ 200
 unfolding out_of_limit
 few-branches r e = elim (dec_lt 200 (length r.branches)) [
   | yes q ↦ clash true refl (none-bad (λ k b. cond (ltb 200 k) true (not (branch_in b.kind b.p))) 4 1 r.branches (row_of r.branches (omega arith)) (or-none _ _ (or-none _ _ e).1).0 200 q)
   | no q ↦ omega arith
 ]
 
-pub few-loads : (r : Rows) → out_of_limit r ≡ Nothing → length r.loads ≤ 300
+pub few-loads : (r : Rows) → out_of_limit r ≡ None → length r.loads ≤ 300
 unfolding out_of_limit
 few-loads r e = elim (dec_lt 300 (length r.loads)) [
   | yes q ↦ clash true refl (none-bad (λ k l. cond (ltb 300 k) true (not (load_in l))) (length r.branches + 6) 1 r.loads (row_of r.loads (omega arith)) (or-none _ _ (or-none _ _ e).1).1 300 q)

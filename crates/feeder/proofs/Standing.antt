@@ -1,11 +1,10 @@
 -- Rows at their places, and the search for the first row with a fault: it finds the first line, or no row has the fault. Assumes nothing.
-use Rattle.std.specs.Prelude.{Bool, cond, false, ◌+◌, ◌<◌, suc, zero, ℕ, get_or, length}
+use Rattle.std.specs.Prelude.{Bool, cond, false, ◌+◌, ◌<◌, suc, zero, ℕ, get_or, length, Some}
 use Rattle.std.proofs.Math.Bool.{true}
 use mathlib.Core.List.{List, [], ◌++◌, ◌∷◌}
 use Rattle.std.proofs.Common.{◌∙◌, sym}
 use Rattle.std.proofs.Math.Path.{◌≡◌, ap, refl}
 use native.Mathlib.Omega.{arith}
-use Rattle.answers.specs.declared.Found.TheVariants.{At}
 use Rattle.feeder.specs.Faults.{Stands}
 use Rattle.feeder.specs.Feeder.{first_row}
 use Rattle.feeder.specs.Pointing.{Finds, finds-same}
@@ -73,7 +72,7 @@ module _ {X : Type 0} (bad : ℕ → X → Bool) (before : ℕ) where
       }
 
       go : {line : ℕ} → line ≡ before + (k + 1) → (c : Bool) → bad (k + 1) y ≡ c → Finds (first_row bad before (k + 1 + 1) l) (LineOf (from (k + 1)) (before + (k + 1)) l)
-          → Finds (cond c (At line) (first_row bad before (k + 1 + 1) l)) (LineOf (from k) (before + k) (y ∷ l))
+          → Finds (cond c (Some line) (first_row bad before (k + 1 + 1) l)) (LineOf (from k) (before + k) (y ∷ l))
       go {line} at-line true b far = record {
         at = λ n e.
             let z : line ≡ n = cc in

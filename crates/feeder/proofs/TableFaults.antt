@@ -1,9 +1,8 @@
 -- Where each table, and the file, is refused: the line that is told is the one that is read, and the lines before it go on as a file. Assumes nothing.
-use Rattle.std.specs.Prelude.{true, List, [], ◌++◌, ◌∷◌, ◌≡◌, refl, ◌+◌, ◌<◌, ℕ, eqb, pos, drop, get_or, length}
+use Rattle.std.specs.Prelude.{true, List, [], ◌++◌, ◌∷◌, ◌≡◌, refl, ◌+◌, ◌<◌, ℕ, eqb, pos, drop, get_or, length, Ok, Err}
 use Rattle.std.proofs.Common.{append_assoc, append-nil, ◌∙◌, ap, subst, sym, arith, eqb-true}
 use Rattle.std.proofs.Math.Seq.{drop-append_seam}
 use Rattle.answers.specs.AnswerLaws.{not_good, stopped}
-use Rattle.answers.specs.Answers.{good, refused}
 use Rattle.answers.specs.declared.Refusal.{Refusal}
 use Rattle.feeder.specs.File.{BranchWritable, LoadWritable, WellLaid, branch_names, branch_text, branches_text, file_of, line_feeds, load_names, load_text, loads_text, row_of_source, source_names, source_text}
 use Rattle.feeder.proofs.FileBack.{branches-back, source-back}
@@ -53,14 +52,14 @@ no_loads = bytes "\n" ++ (bytes load_names ++ joined load_text [])
 abbrev no_branches : List ℕ
 no_branches = bytes branch_names ++ (joined branch_text [] ++ no_loads)
 
-source-fault : (s : List ℕ) (y : Refusal) → source_table s ≡ refused y → Fault (λ t. source_table t ≡ refused y) WellLaid 1 s y
+source-fault : (s : List ℕ) (y : Refusal) → source_table s ≡ Err y → Fault (λ t. source_table t ≡ Err y) WellLaid 1 s y
 unfolding source_table
 source-fault s y e =
     let names : List ℕ = bytes source_names in
     let after : ℕ = 0 + length names in
     let more : List ℕ = row_text some_source ++ (bytes "\n" ++ no_branches) in
     let g = laid some_source some-source [] tt [] tt in
-    let named : (t : List ℕ) (r : Refusal) → text r source_names (names ++ t) 0 ≡ good after = λ t r. text-back r source_names (names ++ t) 0 t refl in
+    let named : (t : List ℕ) (r : Refusal) → text r source_names (names ++ t) 0 ≡ Ok after = λ t r. text-back r source_names (names ++ t) 0 t refl in
     stopped (text _ source_names s 0) _ y e
     (λ c.
     let a = text-told _ _ s 0 y c in
@@ -74,7 +73,7 @@ source-fault s y e =
     let h = (row-reader 0 7).stands _ s p x v.1 i in
     let o = (row-reader 0 7).line x h.writable in
     let before : (t : List ℕ) → drop after (names ++ (row_text x ++ t)) ≡ row_text x ++ t = λ t. past (names ++ (row_text x ++ t)) 0 names (row_text x ++ t) refl in
-    let rowed : (t : List ℕ) (r : Refusal) → row r 1 8 (names ++ (row_text x ++ t)) after ≡ good (x, after + length (row_text x))
+    let rowed : (t : List ℕ) (r : Refusal) → row r 1 8 (names ++ (row_text x ++ t)) after ≡ Ok (x, after + length (row_text x))
     = λ t r. row_back r 1 8 x h.writable (names ++ (row_text x ++ t)) after t (before t) in
     behind (row_text x) o.ended 2 3 (omega (arith, o.one)) (drop p s) (drop v.1 s) h.stand (stopped (text _ "\n" s v.1) _ y j
     (λ k.
@@ -92,13 +91,13 @@ feed-stands s at e = go (drop at s) (rw (first-at s at) at e)
     go [] e = clash true refl (sym e)
     go (b ∷ t) e = (t, ap (λ (c : ℕ). c ∷ t) (eqb-true b 10 e))
 
-branch-fault : (Good : List ℕ → Type 0) (s : List ℕ) (y : Refusal) → branch_table s ≡ refused y → ((l : List BranchRow) → All BranchWritable l → Good (bytes branch_names ++ (joined branch_text l ++ no_loads))) →
-    Fault (λ t. branch_table t ≡ refused y) Good 4 s y
+branch-fault : (Good : List ℕ → Type 0) (s : List ℕ) (y : Refusal) → branch_table s ≡ Err y → ((l : List BranchRow) → All BranchWritable l → Good (bytes branch_names ++ (joined branch_text l ++ no_loads))) →
+    Fault (λ t. branch_table t ≡ Err y) Good 4 s y
 unfolding branch_table
 branch-fault Good s y e g =
     let names : List ℕ = bytes branch_names in
     let after : ℕ = 0 + length names in
-    let named : (t : List ℕ) (r : Refusal) → text r branch_names (names ++ t) 0 ≡ good after = λ t r. text-back r branch_names (names ++ t) 0 t refl in
+    let named : (t : List ℕ) (r : Refusal) → text r branch_names (names ++ t) 0 ≡ Ok after = λ t r. text-back r branch_names (names ++ t) 0 t refl in
     stopped (text _ branch_names s 0) _ y e
     (λ c.
     let a = text-told _ _ s 0 y c in
@@ -114,13 +113,13 @@ branch-fault Good s y e g =
     let k = feed-stands s v.1 h.ended in
     stopped (text _ _ s v.1) _ y j (λ f. not_good _ y (sym (text-back _ _ s v.1 k.0 k.1) ∙ f)) (λ m f w. not_good _ y w))))
 
-load-fault : (Good : List ℕ → Type 0) (n line : ℕ) (s : List ℕ) (y : Refusal) → load_table line s ≡ refused y → line ≡ n → ((m : List LoadRow) → All LoadWritable m → Good (bytes load_names ++ joined load_text m)) →
-    Fault (λ t. load_table line t ≡ refused y) Good n s y
+load-fault : (Good : List ℕ → Type 0) (n line : ℕ) (s : List ℕ) (y : Refusal) → load_table line s ≡ Err y → line ≡ n → ((m : List LoadRow) → All LoadWritable m → Good (bytes load_names ++ joined load_text m)) →
+    Fault (λ t. load_table line t ≡ Err y) Good n s y
 unfolding load_table
 load-fault Good n line s y e z g =
     let names : List ℕ = bytes load_names in
     let after : ℕ = 0 + length names in
-    let named : (t : List ℕ) (r : Refusal) → text r load_names (names ++ t) 0 ≡ good after = λ t r. text-back r load_names (names ++ t) 0 t refl in
+    let named : (t : List ℕ) (r : Refusal) → text r load_names (names ++ t) 0 ≡ Ok after = λ t r. text-back r load_names (names ++ t) 0 t refl in
     stopped (text _ load_names s 0) _ y e
     (λ c.
     let a = text-told _ _ s 0 y c in
@@ -148,7 +147,7 @@ branch-lines l h =
     let w = table-lines (bytes branch_names) (joined branch_text l) branch-names k.0 in
     (w.0, omega (arith, w.1, k.1))
 
-pub layout-fault : (s : List ℕ) (y : Refusal) → layout s ≡ refused y → Fault (λ t. layout t ≡ refused y) WellLaid 1 s y
+pub layout-fault : (s : List ℕ) (y : Refusal) → layout s ≡ Err y → Fault (λ t. layout t ≡ Err y) WellLaid 1 s y
 unfolding layout
 layout-fault s y e =
     stopped (source_table s) _ y e

@@ -1,5 +1,5 @@
 -- The rows of a table one behind the other: they are read back where they stand, and what is read is their text, up to where the table is over. Assumes nothing.
-use Rattle.std.specs.Prelude.{Bool, false, true, ◌≡◌, refl, get_or}
+use Rattle.std.specs.Prelude.{Bool, false, true, ◌≡◌, refl, get_or, Ok}
 use mathlib.Core.List.{List, [], ◌++◌, ◌∷◌, append_assoc}
 use Rattle.std.proofs.Common.{◌∙◌, get_or-drop, ne_eqb}
 use Rattle.std.proofs.Math.Path.{ap, subst, sym}
@@ -7,7 +7,7 @@ use Prim.Native.Nat.{◌+◌, ◌<◌, ◌≤◌, suc, zero, ℕ}
 use native.Mathlib.Omega.{arith}
 use Rattle.std.proofs.Math.ListN.{drop, length, length-append, length-drop}
 use Rattle.answers.specs.AnswerLaws.{bound, same_good, by-test}
-use Rattle.answers.specs.Answers.{Outcome, good}
+use Rattle.answers.specs.Answers.{Outcome}
 use Rattle.answers.specs.declared.Refusal.{Refusal}
 use Rattle.feeder.specs.File.{BranchWritable, LoadWritable, branch_text, load_text}
 use Rattle.feeder.specs.FirstLines.{SameLine, one-some, same_first, same_some}
@@ -16,9 +16,8 @@ use Rattle.feeder.proofs.LineReader.{LineReader, branch-reader, load-reader}
 use Rattle.feeder.specs.declared.BranchRow.{BranchRow}
 use Rattle.feeder.specs.declared.LoadRow.{LoadRow}
 use Rattle.integers.specs.Lists.{All}
-use Rattle.text.specs.Lines.{Placed}
 use Rattle.text.specs.RowText.{past}
-use Rattle.text.specs.Text.{joined}
+use Rattle.text.specs.Text.{joined, Placed}
 
 -- a reader of its lines, and a test for its end: a row does not end the table, and that a line does not is seen from the line alone
 pub record Table {X : Type 0} (read : Refusal → List ℕ → ℕ → Outcome (Placed X)) (over : List ℕ → ℕ → Bool) (written : X → List ℕ) (Writable : X → Type 0) : Type 0 where
@@ -41,9 +40,9 @@ module _ {X : Type 0} {read : Refusal → List ℕ → ℕ → Outcome (Placed X
       (k, omega (arith, k, ap length e, length-append (written x) t, length-drop at s))
 
   pub rows_back : (l : List X) → All Writable l → (f : ℕ) (s : List ℕ) (line at : ℕ) (t : List ℕ) → length s < f + at → drop at s ≡ joined written l ++ t
-      → over s (at + length (joined written l)) ≡ true → rows read f s line at (over s) ≡ good (l, at + length (joined written l))
+      → over s (at + length (joined written l)) ≡ true → rows read f s line at (over s) ≡ Ok (l, at + length (joined written l))
   unfolding rows joined
-  rows_back [] a zero s line at t q e o = ap (λ (p : ℕ). good ([], p)) (omega arith)
+  rows_back [] a zero s line at t q e o = ap (λ (p : ℕ). Ok ([], p)) (omega arith)
   rows_back [] a (suc f) s line at t q e o = let z : at + 0 ≡ at = omega arith in rw (rw z at o, z)
   rows_back (x ∷ l) a zero s line at t q e o =
       let k = row_room x a.0 s at (joined written l ++ t) (e ∙ append_assoc (written x) (joined written l) t) in
@@ -53,15 +52,15 @@ module _ {X : Type 0} {read : Refusal → List ℕ → ℕ → Outcome (Placed X
       let k = row_room x a.0 s at (joined written l ++ t) c in
       let p : ℕ = at + length (written x) in
       let z : p + length (joined written l) ≡ at + length (written x ++ joined written l) = simp length-append (omega arith) in
-      let d : (n : ℕ) → rows read f s n p (over s) ≡ good (l, p + length (joined written l)) = λ n. rows_back l a.1 f s n p t (omega (arith, k.0)) (past s at (written x) (joined written l ++ t) c) (rw z o) in
-      let b : (r : Refusal) → read r s at ≡ good (x, p) = λ r. table.reader.back r x a.0 s at (joined written l ++ t) c in
-      rw (table.going x a.0 s at (joined written l ++ t) c, b, d) (ap (λ (n : ℕ). good (x ∷ l, n)) z)
+      let d : (n : ℕ) → rows read f s n p (over s) ≡ Ok (l, p + length (joined written l)) = λ n. rows_back l a.1 f s n p t (omega (arith, k.0)) (past s at (written x) (joined written l ++ t) c) (rw z o) in
+      let b : (r : Refusal) → read r s at ≡ Ok (x, p) = λ r. table.reader.back r x a.0 s at (joined written l ++ t) c in
+      rw (table.going x a.0 s at (joined written l ++ t) c, b, d) (ap (λ (n : ℕ). Ok (x ∷ l, n)) z)
 
-  pub rows-read : (f : ℕ) (s : List ℕ) (line at : ℕ) (l : List X) (p : ℕ) → at ≤ length s → length s < f + at → rows read f s line at (over s) ≡ good (l, p) → RowsRead over written Writable s at l p
+  pub rows-read : (f : ℕ) (s : List ℕ) (line at : ℕ) (l : List X) (p : ℕ) → at ≤ length s → length s < f + at → rows read f s line at (over s) ≡ Ok (l, p) → RowsRead over written Writable s at l p
   unfolding rows joined
   rows-read zero s line at l p a b e = absurd (omega arith)
   rows-read (suc f) s line at l p a b e =
-      by-test (over s at) _ _ (good (l, p)) e
+      by-test (over s at) _ _ (Ok (l, p)) e
       (λ o g. subst (λ (y : Placed (List X)). RowsRead over written Writable s at y.0 y.1) (same_good ([], at) (l, p) g) (record { stand = refl; writable = tt; within = a; ended = o }))
       (λ o g.
       let c = bound {X = Placed X} _ _ (l, p) g in
@@ -101,8 +100,8 @@ load-rows = record {
 
 -- the bound of the rows never ends a table: with as many rows as the table has bytes, of which the line of names has some, each table is read up to where it is over
 pub rows-over : (s : List ℕ) (line at : ℕ) → 0 < at → at ≤ length s
-    → ((l : List BranchRow) (p : ℕ) → rows branch_row (length s) s line at (empty_line s) ≡ good (l, p) → empty_line s p ≡ true)
-    × ((l : List LoadRow) (p : ℕ) → rows load_row (length s) s line at (file_end s) ≡ good (l, p) → file_end s p ≡ true)
+    → ((l : List BranchRow) (p : ℕ) → rows branch_row (length s) s line at (empty_line s) ≡ Ok (l, p) → empty_line s p ≡ true)
+    × ((l : List LoadRow) (p : ℕ) → rows load_row (length s) s line at (file_end s) ≡ Ok (l, p) → file_end s p ≡ true)
 rows-over s line at a b = (
   λ l p e. (rows-read branch-rows (length s) s line at l p b (omega arith) e).ended,
   λ l p e. (rows-read load-rows (length s) s line at l p b (omega arith) e).ended,

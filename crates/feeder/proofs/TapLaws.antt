@@ -19,8 +19,7 @@ use Rattle.feeder.specs.declared.Kind.TheVariants.{D, L, R, Y}
 use Rattle.feeder.specs.declared.Load.{Load}
 use Rattle.feeder.specs.declared.Phase.{Phase}
 use Rattle.feeder.specs.declared.Phase.TheVariants.{A, B, C}
-use Rattle.feeder.specs.declared.Phases.{Phases}
-use Rattle.feeder.specs.declared.Taps.{Taps}
+use Rattle.feeder.specs.Phased.{Phases, Taps}
 use Rattle.integers.specs.Bools.{both, clash}
 use Rattle.integers.specs.ListLaws.{all-at, all_map, count-true, get_or-tab, length-tab}
 use Rattle.integers.specs.Lists.{All, all, chosen, count, tab}

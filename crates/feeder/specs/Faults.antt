@@ -9,7 +9,7 @@ use Rattle.feeder.specs.Layout.{Rows}
 use Rattle.feeder.specs.declared.BranchRow.{BranchRow}
 use Rattle.feeder.specs.declared.LoadRow.{LoadRow}
 use Rattle.feeder.specs.declared.Phase.{Phase}
-use Rattle.feeder.specs.declared.Phases.{Phases}
+use Rattle.feeder.specs.Phased.{Phases}
 use Rattle.text.specs.Lines.{row_text}
 
 -- ---- the rows of a file by their lines
@@ -121,8 +121,8 @@ pub record First (Fault : ℕ → Type 0) (n : ℕ) : Type 0 where
   pub faulty : Fault n
   pub none_before : (m : ℕ) → m < n → Fault m → ⊥
 
-abbrev pub None : (ℕ → Type 0) → Type 0
-None Fault = (n : ℕ) → Fault n → ⊥
+abbrev pub NoLine : (ℕ → Type 0) → Type 0
+NoLine Fault = (n : ℕ) → Fault n → ⊥
 
 -- `tells n` is that the answer is this number with line n, `free` that nothing applies that is tried before it
 pub record PointsAt (tells : ℕ → Type 0) (Fault : ℕ → Type 0) (free : Type 0) : Type 0 where
@@ -133,19 +133,19 @@ pub record PointsAt (tells : ℕ → Type 0) (Fault : ℕ → Type 0) (free : Ty
 -- "The lowest number that applies anywhere comes first": `fits` is that 9 does not apply, and no row of s has the fault named, nor one of those named before it. Of
 -- 10 nothing is asked: where a row has a fault, the text is a well laid out file
 abbrev pub Free11 : List ℕ → Type 0 → Type 0
-Free11 s fits = fits × None (FaultAt Fault11 s)
+Free11 s fits = fits × NoLine (FaultAt Fault11 s)
 
 abbrev pub Free20 : List ℕ → Type 0 → Type 0
-Free20 s fits = Free11 s fits × None (FaultAt Fault20 s)
+Free20 s fits = Free11 s fits × NoLine (FaultAt Fault20 s)
 
 abbrev pub Free21 : List ℕ → Type 0 → Type 0
-Free21 s fits = Free20 s fits × None (FaultAt Fault21 s)
+Free21 s fits = Free20 s fits × NoLine (FaultAt Fault21 s)
 
 abbrev pub Free22 : List ℕ → Type 0 → Type 0
-Free22 s fits = Free21 s fits × None (FaultAt Fault22 s)
+Free22 s fits = Free21 s fits × NoLine (FaultAt Fault22 s)
 
 abbrev pub Free23 : List ℕ → Type 0 → Type 0
-Free23 s fits = Free22 s fits × None (FaultAt Fault23 s)
+Free23 s fits = Free22 s fits × NoLine (FaultAt Fault23 s)
 
 -- `tells y` is that the answer is the refusal y
 pub record PointsIntoFeeder (s : List ℕ) (fits : Type 0) (tells : Refusal → Type 0) : Type 0 where

@@ -1,9 +1,7 @@
 -- Limits, radial form and what is due 0 (01, 02): 11 and 20 to 24, each the first line with that fault, the feeder that has none, and its taps. Assumes nothing.
-use Rattle.std.specs.Prelude.{Bool, ◌&&◌, cond, false, not, true, List, [], ◌∷◌, map, ◌+◌, ◌-◌, suc, zero, ℕ, eqb, ltb, nat_abs, negsuc, neg_ℤ, pos, ℤ, get_or, length, take}
+use Rattle.std.specs.Prelude.{Bool, ◌&&◌, cond, false, not, true, List, [], ◌∷◌, map, ◌+◌, ◌-◌, suc, zero, ℕ, eqb, ltb, nat_abs, negsuc, neg_ℤ, pos, ℤ, get_or, length, take, Option, Some, None, Ok}
 use Rattle.std.specs.Int.Signed.{le_z}
-use Rattle.answers.specs.Answers.{Outcome, ◌>>=◌, ◌>>◌, good, refuse_at, refuse_if}
-use Rattle.answers.specs.declared.Found.{Found}
-use Rattle.answers.specs.declared.Found.TheVariants.{At, Nothing}
+use Rattle.answers.specs.Answers.{Outcome, ◌>>=◌, ◌>>◌, refuse_at, refuse_if}
 use Rattle.answers.specs.declared.Refusal.TheVariants.{NotReached, NotZero, OutOfLimit, PhaseAbsent, SecondTo, TooLong, UnknownFrom}
 use Rattle.feeder.specs.Layout.{Rows, layout, phase_set}
 use Rattle.feeder.specs.declared.Branch.{Branch}
@@ -19,12 +17,9 @@ use Rattle.feeder.specs.declared.Load.{Load}
 use Rattle.feeder.specs.declared.LoadRow.{LoadRow}
 use Rattle.feeder.specs.declared.Phase.{Phase}
 use Rattle.feeder.specs.declared.Phase.TheVariants.{A, B, C}
-use Rattle.feeder.specs.declared.Phases.{Phases}
-use Rattle.feeder.specs.declared.Signs.{Signs}
+use Rattle.feeder.specs.Phased.{Phases, Signs, Taps, Three}
 use Rattle.feeder.specs.declared.Terminals.{Terminals}
 use Rattle.feeder.specs.declared.Terminals.TheVariants.{AB, BC, CA, OnA, OnB, OnC}
-use Rattle.feeder.specs.declared.Taps.{Taps}
-use Rattle.feeder.specs.declared.Three.{Three}
 use Rattle.integers.specs.Lists.{all, chosen, count, tab}
 use Rattle.integers.specs.Pairs.{0c, inside}
 use Rattle.integers.specs.declared.Pair.{Pair}
@@ -32,18 +27,18 @@ use Rattle.text.specs.Lines.{nth}
 
 -- 02, S-4: "the line returned shall be the first with that fault". Row k, counted from 1, stands in line `before` + k. What each fault is and which line is the
 -- first is said without this search in Faults
-unfoldable pub first_row : {X : Type 0} → (ℕ → X → Bool) → ℕ → ℕ → List X → Found
-first_row bad before k [] = Nothing
-first_row bad before k (x ∷ l) = cond (bad k x) (At (before + k)) (first_row bad before (k + 1) l)
+unfoldable pub first_row : {X : Type 0} → (ℕ → X → Bool) → ℕ → ℕ → List X → Option ℕ
+first_row bad before k [] = None
+first_row bad before k (x ∷ l) = cond (bad k x) (Some (before + k)) (first_row bad before (k + 1) l)
 
-unfoldable pub or_else : Found → Found → Found
-or_else (At n) other = At n
-or_else Nothing other = other
+unfoldable pub or_else : Option ℕ → Option ℕ → Option ℕ
+or_else (Some n) other = Some n
+or_else None other = other
 
-abbrev pub first_branch : (ℕ → BranchRow → Bool) → Rows → Found
+abbrev pub first_branch : (ℕ → BranchRow → Bool) → Rows → Option ℕ
 first_branch bad r = first_row bad 4 1 r.branches
 
-abbrev pub first_load : (ℕ → LoadRow → Bool) → Rows → Found
+abbrev pub first_load : (ℕ → LoadRow → Bool) → Rows → Option ℕ
 first_load bad r = first_row bad (length r.branches + 6) 1 r.loads
 
 -- ---- phases
@@ -155,9 +150,9 @@ vn_most t = pos (cond (delta t) 4000000 2000000)
 unfoldable pub load_in : LoadRow → Bool
 load_in l = between (pos 1) (vn_most l.phase) l.vn && (inside 3000000 l.s.re && inside 3000000 l.s.im)
 
-unfoldable pub out_of_limit : Rows → Found
+unfoldable pub out_of_limit : Rows → Option ℕ
 out_of_limit r =
-    or_else (cond (source_in r.given) Nothing (At 2))
+    or_else (cond (source_in r.given) None (Some 2))
     (or_else (first_branch (λ k b. cond (ltb 200 k) true (not (branch_in b.kind b.p))) r)
     (first_load (λ k l. cond (ltb 300 k) true (not (load_in l))) r))
 
@@ -174,11 +169,11 @@ abbrev pub known : Rows → ℕ → Bool
 known r n = ltb (place_of n (nodes_of r)) (length (nodes_of r))
 
 -- 20: "from-name is neither the source nor any "to""
-unfoldable pub unknown_from : Rows → Found
+unfoldable pub unknown_from : Rows → Option ℕ
 unknown_from r = first_branch (λ k b. not (known r b.from)) r
 
 -- 21: ""to" is the source or an earlier row's "to""
-unfoldable pub second_to : Rows → Found
+unfoldable pub second_to : Rows → Option ℕ
 second_to r = first_branch (λ k b. ltb (place_of b.to (nodes_of r)) k) r
 
 -- ---- the feeder by node numbers; `nodes` has the names
@@ -295,7 +290,7 @@ above par (suc n) zero = zero
 above par (suc n) (suc i) = above par n (par (suc i))
 
 -- 22: "branch row's to-node not reached from the source": as many steps up as there are rows do not arrive there
-unfoldable pub not_reached : Rows → Found
+unfoldable pub not_reached : Rows → Option ℕ
 not_reached r = let f = feeder_of r in first_branch (λ k b. not (eqb (above (parent f) (row_count f) k) 0)) r
 
 -- 23: "branch phases not all at its from-node, Y or D not ABC, load's node unknown or its phase absent"; 02: "Both phases must be present under 23"
@@ -305,7 +300,7 @@ three_phase R f = true
 three_phase Y f = all_of all_phases f
 three_phase D f = all_of all_phases f
 
-unfoldable pub phase_absent : Rows → Found
+unfoldable pub phase_absent : Rows → Option ℕ
 phase_absent r =
     let f = feeder_of r in
     or_else (first_branch (λ k b. not (all_of b.phases (phases_of f (parent f k)) && three_phase b.kind b.phases)) r)
@@ -319,7 +314,7 @@ zero_if_due f Unused z = inside 0 z
 unfoldable pub zeros : Kind → Phases → List ℤ → Bool
 zeros k f p = all (λ j. zero_if_due f (column_of k p j) (nth p j)) (count 1 12)
 
-unfoldable pub not_zero : Rows → Found
+unfoldable pub not_zero : Rows → Option ℕ
 not_zero r = first_branch (λ k b. not (zeros b.kind b.phases b.p)) r
 
 -- "feeder or report over 65,536 bytes"
@@ -337,4 +332,4 @@ reading s = do
   refuse_at NotReached (not_reached r)
   refuse_at PhaseAbsent (phase_absent r)
   refuse_at NotZero (not_zero r)
-  good (feeder_of r)
+  Ok (feeder_of r)

@@ -9,7 +9,7 @@ use Rattle.feeder.specs.declared.Kind.TheVariants.{D, L, R, Y}
 use Rattle.feeder.specs.declared.LoadKind.{LoadKind}
 use Rattle.feeder.specs.declared.LoadKind.TheVariants.{Current, Impedance, Power}
 use Rattle.feeder.specs.declared.LoadRow.{LoadRow}
-use Rattle.feeder.specs.declared.Phases.{Phases}
+use Rattle.feeder.specs.Phased.{Phases}
 use Rattle.feeder.specs.declared.Terminals.{Terminals}
 use Rattle.feeder.specs.declared.Terminals.TheVariants.{AB, BC, CA, OnA, OnB, OnC}
 use Rattle.integers.specs.Lists.{All}

@@ -1,6 +1,6 @@
 -- Files (01): the feeder's tables, read line by line. A fault of layout is refused with the number of the line where the reading ends. Assumes nothing.
-use Rattle.std.specs.Prelude.{Bool, cond, false, true, List, [], ◌∷◌, ◌+◌, suc, zero, ℕ, eqb, ℤ, drop, get_or, length}
-use Rattle.answers.specs.Answers.{Outcome, ◌>>=◌, good}
+use Rattle.std.specs.Prelude.{Bool, cond, false, true, List, [], ◌∷◌, ◌+◌, suc, zero, ℕ, eqb, ℤ, drop, get_or, length, Ok}
+use Rattle.answers.specs.Answers.{Outcome, ◌>>=◌}
 use Rattle.answers.specs.declared.Refusal.{Refusal}
 use Rattle.answers.specs.declared.Refusal.TheVariants.{Layout}
 use Rattle.feeder.specs.declared.BranchRow.{BranchRow}
@@ -9,11 +9,11 @@ use Rattle.feeder.specs.declared.Kind.TheVariants.{D, L, R, Y}
 use Rattle.feeder.specs.declared.LoadKind.{LoadKind}
 use Rattle.feeder.specs.declared.LoadKind.TheVariants.{Current, Impedance, Power}
 use Rattle.feeder.specs.declared.LoadRow.{LoadRow}
-use Rattle.feeder.specs.declared.Phases.{Phases}
+use Rattle.feeder.specs.Phased.{Phases}
 use Rattle.feeder.specs.declared.Terminals.{Terminals}
 use Rattle.feeder.specs.declared.Terminals.TheVariants.{AB, BC, CA, OnA, OnB, OnC}
-use Rattle.text.specs.Lines.{Placed, Row, listed, nth, row, text, word_of}
-use Rattle.text.specs.Text.{word}
+use Rattle.text.specs.Lines.{Row, listed, nth, row, text, word_of}
+use Rattle.text.specs.Text.{word, Placed}
 
 -- ---- the three tables
 pub record Rows : Type 0 where
@@ -52,23 +52,23 @@ branch_row r s at = do
   (x, next) ← row r 4 12 s at
   phases ← listed r (word_of x 2) phases_words
   kind ← listed r (word_of x 3) kind_words
-  good (record { from = word_of x 0; to = word_of x 1; phases = phases; kind = kind; p = x.values }, next)
+  Ok (record { from = word_of x 0; to = word_of x 1; phases = phases; kind = kind; p = x.values }, next)
 
 unfoldable pub load_row : Refusal → List ℕ → ℕ → Outcome (Placed LoadRow)
 load_row r s at = do
   (x, next) ← row r 3 3 s at
   phase ← listed r (word_of x 1) phase_words
   kind ← listed r (word_of x 2) load_words
-  good (record { node = word_of x 0; phase = phase; kind = kind; vn = nth x.values 1; s = record { re = nth x.values 2; im = nth x.values 3 } }, next)
+  Ok (record { node = word_of x 0; phase = phase; kind = kind; vn = nth x.values 1; s = record { re = nth x.values 2; im = nth x.values 3 } }, next)
 
 -- rows from a line on ("Lines count from 1, empty ones too"), up to an empty line (the next byte is LF) or the end of the file. At most f: the tables below
 -- give it as many as they have bytes, and that none is left out is `rows-over` (TableRows)
 unfoldable pub rows : {X : Type 0} → (Refusal → List ℕ → ℕ → Outcome (Placed X)) → ℕ → List ℕ → ℕ → ℕ → (ℕ → Bool) → Outcome (Placed (List X))
-rows read zero s line at over = good ([], at)
-rows read (suc f) s line at over = cond (over at) (good ([], at)) (do
+rows read zero s line at over = Ok ([], at)
+rows read (suc f) s line at over = cond (over at) (Ok ([], at)) (do
   (x, p) ← read (Layout line) s at
   (xs, q) ← rows read f s (line + 1) p over
-  good (x ∷ xs, q))
+  Ok (x ∷ xs, q))
 
 abbrev pub empty_line : List ℕ → ℕ → Bool
 empty_line s at = eqb (get_or s at 0) 10
@@ -84,24 +84,24 @@ source_table s = do
   p ← text (Layout 1) "source,va_re,va_im,vb_re,vb_im,vc_re,vc_im,tol,sweeps\n" s 0
   (source, p) ← row (Layout 2) 1 8 s p
   p ← text (Layout 3) "\n" s p
-  good (source, p)
+  Ok (source, p)
 
 unfoldable pub branch_table : List ℕ → Outcome (Placed (List BranchRow))
 branch_table s = do
   p ← text (Layout 4) "from,to,phases,kind,p1,p2,p3,p4,p5,p6,p7,p8,p9,p10,p11,p12\n" s 0
   (branches, p) ← rows branch_row (length s) s 5 p (empty_line s)
   p ← text (Layout (length branches + 5)) "\n" s p
-  good (branches, p)
+  Ok (branches, p)
 
 unfoldable pub load_table : ℕ → List ℕ → Outcome (List LoadRow)
 load_table line s = do
   p ← text (Layout line) "node,phase,kind,vn,p,q\n" s 0
   (loads, p) ← rows load_row (length s) s (line + 1) p (file_end s)
-  good loads
+  Ok loads
 
 unfoldable pub layout : List ℕ → Outcome Rows
 layout s = do
   (source, p) ← source_table s
   (branches, q) ← branch_table (drop p s)
   loads ← load_table (length branches + 6) (drop q (drop p s))
-  good (record { source = word_of source 0; given = source.values; branches = branches; loads = loads })
+  Ok (record { source = word_of source 0; given = source.values; branches = branches; loads = loads })

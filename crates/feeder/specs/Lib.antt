@@ -12,3 +12,4 @@ pub mod RowLaws
 pub mod Reach
 pub mod Stages
 pub mod Pointing
+pub mod Phased

@@ -1,20 +1,73 @@
 // A feeder in memory: its source, branches and loads. specs/Layout.antt and specs/Feeder.antt say what a file holds and which files are refused.
 #![tactic(auto)]
 
-ghost use Rattle.std.specs.Prelude.{◌≡◌};
+ghost use Rattle.std.specs.Prelude.{◌≡◌, ◌&&◌};
 ghost use Rattle.feeder.specs.Feeder.{phase_signs};
 
 use integers::Pair;
 
-// A pair for each phase: the voltages at a node, or the currents of a branch.
-#[derive(Clone, Copy)]
-pub struct Three {
-    pub a: Pair,
-    pub b: Pair,
-    pub c: Pair,
+// One for each phase.
+#[derive(Clone, Copy, PartialEq, Eq)]
+pub struct PerPhase<T> {
+    pub a: T,
+    pub b: T,
+    pub c: T,
 }
 
-#[derive(Clone, Copy)]
+impl<T: Copy> PerPhase<T> {
+    // The same on each phase.
+    pub fn same(x: T) -> PerPhase<T>
+        ensures { result ≡ record { a = x; b = x; c = x } }
+    {
+        PerPhase { a: x, b: x, c: x }
+    }
+
+    // What f makes of each.
+    pub fn map<U, F: Fn(T) -> U>(self, f: F) -> PerPhase<U>
+        requires a { F.pre f self.a }
+        requires b { F.pre f self.b }
+        requires c { F.pre f self.c }
+        ensures a { F.post f self.a result.a }
+        ensures b { F.post f self.b result.b }
+        ensures c { F.post f self.c result.c }
+    {
+        PerPhase {
+            a: f(self.a),
+            b: f(self.b),
+            c: f(self.c),
+        }
+    }
+
+    // What f makes of each with the other's on the same phase.
+    pub fn zip<U: Copy, V, F: Fn(T, U) -> V>(self, other: PerPhase<U>, f: F) -> PerPhase<V>
+        requires a { F.pre f self.a other.a }
+        requires b { F.pre f self.b other.b }
+        requires c { F.pre f self.c other.c }
+        ensures a { F.post f self.a other.a result.a }
+        ensures b { F.post f self.b other.b result.b }
+        ensures c { F.post f self.c other.c result.c }
+    {
+        PerPhase {
+            a: f(self.a, other.a),
+            b: f(self.b, other.b),
+            c: f(self.c, other.c),
+        }
+    }
+}
+
+impl PerPhase<bool> {
+    // Whether it holds on every phase.
+    pub fn all(self) -> bool
+        ensures { result ≡ (self.a && (self.b && self.c)) }
+    {
+        self.a && (self.b && self.c)
+    }
+}
+
+// A pair for each phase: the voltages at a node, or the currents of a branch.
+pub type Three = PerPhase<Pair>;
+
+#[derive(Clone, Copy, PartialEq, Eq)]
 pub enum Phase {
     A,
     B,
@@ -22,7 +75,7 @@ pub enum Phase {
 }
 
 // What a load stands between: one phase and ground, or two phases.
-#[derive(Clone, Copy)]
+#[derive(Clone, Copy, PartialEq, Eq)]
 pub enum Terminals {
     OnA,
     OnB,
@@ -33,20 +86,10 @@ pub enum Terminals {
 }
 
 // What of each phase's voltage or current counts: -1, 0 or 1.
-#[derive(Clone, Copy)]
-pub struct Signs {
-    pub a: i64,
-    pub b: i64,
-    pub c: i64,
-}
+pub type Signs = PerPhase<i64>;
 
 // The phases that a branch or a node has.
-#[derive(Clone, Copy)]
-pub struct Phases {
-    pub a: bool,
-    pub b: bool,
-    pub c: bool,
-}
+pub type Phases = PerPhase<bool>;
 
 // A line's impedances. The matrix is symmetric.
 #[derive(Clone, Copy)]
@@ -60,12 +103,7 @@ pub struct LineZ {
 }
 
 // A regulator's tap on each phase.
-#[derive(Clone, Copy)]
-pub struct Taps {
-    pub a: i64,
-    pub b: i64,
-    pub c: i64,
-}
+pub type Taps = PerPhase<i64>;
 
 // A regulator: its taps, and the relay that sets them where level is above 0: level and band in cV, potential ratio, current ratio, compensator R + jX.
 #[derive(Clone, Copy)]
@@ -79,7 +117,7 @@ pub struct TapChanger {
 }
 
 // Grounded wye to grounded wye, or delta to grounded wye.
-#[derive(Clone, Copy)]
+#[derive(Clone, Copy, PartialEq, Eq)]
 pub enum Connection {
     Wye,
     Delta,
@@ -109,7 +147,7 @@ pub struct Branch {
     pub device: Device,
 }
 
-#[derive(Clone, Copy)]
+#[derive(Clone, Copy, PartialEq, Eq)]
 pub enum LoadKind {
     Power,
     Current,
@@ -147,7 +185,7 @@ pub struct LoadRow {
 }
 
 // The letter in a branch row's column "kind".
-#[derive(Clone, Copy)]
+#[derive(Clone, Copy, PartialEq, Eq)]
 pub enum Kind {
     L,
     R,
@@ -179,24 +217,15 @@ pub struct Network {
 }
 
 // The signs of A, B, C, AB, BC and CA, for a load's voltage and for its current alike.
-const SIGNS: [Signs; 6] = [
-    Signs { a: 1, b: 0, c: 0 },
-    Signs { a: 0, b: 1, c: 0 },
-    Signs { a: 0, b: 0, c: 1 },
-    Signs { a: 1, b: -1, c: 0 },
-    Signs { a: 0, b: 1, c: -1 },
-    Signs { a: -1, b: 0, c: 1 },
-];
-
 pub fn signs_of(terminals: Terminals) -> Signs
     ensures { result ≡ phase_signs terminals }
 {
     match terminals {
-        Terminals::OnA => SIGNS[0],
-        Terminals::OnB => SIGNS[1],
-        Terminals::OnC => SIGNS[2],
-        Terminals::AB => SIGNS[3],
-        Terminals::BC => SIGNS[4],
-        Terminals::CA => SIGNS[5],
+        Terminals::OnA => Signs { a: 1, b: 0, c: 0 },
+        Terminals::OnB => Signs { a: 0, b: 1, c: 0 },
+        Terminals::OnC => Signs { a: 0, b: 0, c: 1 },
+        Terminals::AB => Signs { a: 1, b: -1, c: 0 },
+        Terminals::BC => Signs { a: 0, b: 1, c: -1 },
+        Terminals::CA => Signs { a: -1, b: 0, c: 1 },
     }
 }

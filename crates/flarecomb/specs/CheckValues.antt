@@ -1,7 +1,7 @@
 -- The check: the value of each of its refusals. Assumes nothing.
 use mathlib.Core.List.{List, ◌∷◌}
 use Rattle.std.proofs.Common.{◌∙◌, subst, sym, arith}
-use Rattle.std.specs.Prelude.{◌≡◌, refl, ◌*◌, ◌+◌, ◌≤◌, ℕ, get_or, length}
+use Rattle.std.specs.Prelude.{◌≡◌, refl, ◌*◌, ◌+◌, ◌≤◌, ℕ, get_or, length, Err}
 use Rattle.answers.specs.Answers.{done, refuse_at, refuse_if, value_of}
 use Rattle.answers.specs.Only.{after-only, good-only, if-only, then-only}
 use Rattle.answers.specs.declared.Refusal.{Refusal}
@@ -9,7 +9,7 @@ use Rattle.answers.specs.declared.Refusal.TheVariants.{CurrentBeyond, CurrentDif
 use Rattle.equations.specs.Equations.{current_beyond, currents, load_beyond, voltages, zero3, zero_voltage}
 use Rattle.equations.specs.Fit.{fit}
 use Rattle.feeder.specs.Feeder.{Feeder, reading, regulators, row_count, rows_of, too_long}
-use Rattle.feeder.specs.declared.Three.{Three}
+use Rattle.feeder.specs.Phased.{Three}
 use Rattle.flarecomb.specs.ReadingValues.{reading-up-to}
 use Rattle.flarecomb.specs.Values.{LineUpTo, UpTo, at-up-to, first-up-to, or-up-to, unless-up-to}
 use Rattle.integers.specs.ListLaws.{length-tab}
@@ -17,9 +17,7 @@ use Rattle.integers.specs.Lists.{count}
 use Rattle.report.specs.Report.{Reported, report_of, reported_voltages, with_reported}
 use Rattle.report.proofs.ReportRows.{only-50, rows-match}
 use Rattle.compare.specs.Differences.{current_differs, name_differs, same3, source_differs, tap_differs, total_differs}
-use Rattle.verdicts.specs.Check.{check_of, checked, compared, voltage_off}
-use Rattle.verdicts.proofs.Passed.{fail-refused}
-use Rattle.verdicts.specs.declared.Verdict.TheVariants.{Fail}
+use Rattle.verdicts.specs.Check.{checked, compared, voltage_off}
 use Rattle.feeder.proofs.TapLaws.{few-regulators}
 use Rattle.report.proofs.ReportTaps.{reported-retapped}
 
@@ -79,6 +77,5 @@ checked-up-to s t = after-only (refuse_if (too_long t) TooLong) _ (if-only (too_
     (after-only (refuse_at TapDiffers (tap_differs f r)) _ (at-up-to (tap_differs f r) TapDiffers (λ m. refl) (tap-line f (omega arith) r)) (good-only done)))))
 
 -- of the answer
-pub check-value : (s t : List ℕ) (x : Refusal) → check_of s t ≡ Fail x → value_of x ≤ 131078
-unfolding check_of
-check-value s t x e = (checked-up-to s t).each x (fail-refused (checked s t) x e)
+pub check-value : (s t : List ℕ) (x : Refusal) → checked s t ≡ Err x → value_of x ≤ 131078
+check-value s t x e = (checked-up-to s t).each x e

@@ -1,12 +1,12 @@
 -- 9 to 24: the line that is refused is bounded by the file's length, since a table has no more rows than its part of the file has bytes. Assumes nothing.
-use Rattle.std.specs.Prelude.{Bool, ◌≡◌, refl, drop}
+use Rattle.std.specs.Prelude.{Bool, ◌≡◌, refl, drop, Ok}
 use Rattle.std.proofs.Math.Bool.{cond, false, true}
 use mathlib.Core.List.{List, [], ◌∷◌}
 use Rattle.std.proofs.Common.{ap, subst, arith, length-drop, ltb-false}
 use Prim.Native.Nat.{◌+◌, ◌≤◌, suc, zero, ℕ}
 use Rattle.std.proofs.Math.ListN.{length}
 use Rattle.answers.specs.AnswerLaws.{bound, same_good}
-use Rattle.answers.specs.Answers.{Outcome, ◌>>=◌, ◌>>◌, good, refuse_if, value_of}
+use Rattle.answers.specs.Answers.{Outcome, ◌>>=◌, ◌>>◌, refuse_if, value_of}
 use Rattle.answers.specs.Only.{cond-only, good-only, refused-only, then-only}
 use Rattle.answers.specs.declared.Refusal.{Refusal}
 use Rattle.answers.specs.declared.Refusal.TheVariants.{Layout, TooLong}
@@ -16,7 +16,8 @@ use Rattle.feeder.specs.Stages.{from11, reading-is, tests-only}
 use Rattle.feeder.specs.declared.BranchRow.{BranchRow}
 use Rattle.feeder.specs.declared.LoadRow.{LoadRow}
 use Rattle.flarecomb.specs.Values.{LineUpTo, UpTo, first-up-to, or-up-to, unless-up-to}
-use Rattle.text.specs.Lines.{Placed, Row, listed, row, text, word_of}
+use Rattle.text.specs.Text.{Placed}
+use Rattle.text.specs.Lines.{Row, listed, row, text, word_of}
 use Rattle.text.specs.RowRefused.{listed-only, row-only, text-only}
 
 -- ---- a line of a table
@@ -38,23 +39,23 @@ module _ {X : Type 0} (read : Refusal → List ℕ → ℕ → Outcome (Placed X
   rows-up-to : {n : ℕ} → ((r : Refusal) → value_of r ≤ n → (s : List ℕ) (at : ℕ) → UpTo n (read r s at)) → (f : ℕ) (s : List ℕ) (line at : ℕ) (over : ℕ → Bool) → line + f ≤ suc n → UpTo n (rows read f s line at over)
   unfolding rows
   rows-up-to h zero s line at over q = good-only ([], at)
-  rows-up-to h (suc f) s line at over q = cond-only (over at) (good ([], at)) _ (good-only _)
+  rows-up-to h (suc f) s line at over q = cond-only (over at) (Ok ([], at)) _ (good-only _)
       (then-only (read (Layout line) s at) _ (h (Layout line) (omega arith) s at)
       (λ x e. then-only (rows read f s (line + 1) x.1 over) _ (rows-up-to h f s (line + 1) x.1 over (omega arith)) (λ y g. good-only _)))
 
   abbrev put : X → Placed (List X) → Outcome (Placed (List X))
-  put x y = good (x ∷ y.0, y.1)
+  put x y = Ok (x ∷ y.0, y.1)
 
-  length-is : (x : Placed (List X)) (l : List X) (p : ℕ) → ◌≡◌ {A = Outcome (Placed (List X))} (good x) (good (l, p)) → length x.0 ≡ length l
+  length-is : (x : Placed (List X)) (l : List X) (p : ℕ) → ◌≡◌ {A = Outcome (Placed (List X))} (Ok x) (Ok (l, p)) → length x.0 ≡ length l
   length-is x l p e = ap (λ (y : Placed (List X)). length y.0) (same_good x (l, p) e)
 
-  rows_few : (f : ℕ) (s : List ℕ) (line at : ℕ) (over : ℕ → Bool) (l : List X) (p : ℕ) → rows read f s line at over ≡ good (l, p) → length l ≤ f
+  rows_few : (f : ℕ) (s : List ℕ) (line at : ℕ) (over : ℕ → Bool) (l : List X) (p : ℕ) → rows read f s line at over ≡ Ok (l, p) → length l ≤ f
   unfolding rows
   rows_few zero s line at over l p e = omega (arith, length-is ([], at) l p e)
   rows_few (suc f) s line at over l p e = by (over at) e (rows_few f s (line + 1))
     where
-      by : (c : Bool) → cond {A = Outcome (Placed (List X))} c (good ([], at)) (read (Layout line) s at >>= λ y. rows read f s (line + 1) y.1 over >>= put y.0) ≡ good (l, p)
-          → ((q : ℕ) (o : ℕ → Bool) (m : List X) (k : ℕ) → rows read f s (line + 1) q o ≡ good (m, k) → length m ≤ f) → length l ≤ suc f
+      by : (c : Bool) → cond {A = Outcome (Placed (List X))} c (Ok ([], at)) (read (Layout line) s at >>= λ y. rows read f s (line + 1) y.1 over >>= put y.0) ≡ Ok (l, p)
+          → ((q : ℕ) (o : ℕ → Bool) (m : List X) (k : ℕ) → rows read f s (line + 1) q o ≡ Ok (m, k) → length m ≤ f) → length l ≤ suc f
       by true g ih = omega (arith, length-is ([], at) l p g)
       by false g ih =
           let a = bound (read (Layout line) s at) (λ y. rows read f s (line + 1) y.1 over >>= put y.0) (l, p) g in
@@ -75,13 +76,13 @@ branch-table-up-to s q = then-only (text (Layout 4) "from,to,phases,kind,p1,p2,p
     (λ x f. then-only (text (Layout (length x.0 + 5)) "\n" s x.1) _
     (text-only (Layout (length x.0 + 5)) (let k = rows_few branch_row (length s) s 5 a (empty_line s) x.0 x.1 f in omega arith) _ s x.1) (λ p g. good-only _)))
 
-branch-table-few : (s : List ℕ) (l : List BranchRow) (p : ℕ) → branch_table s ≡ good (l, p) → length l ≤ length s
+branch-table-few : (s : List ℕ) (l : List BranchRow) (p : ℕ) → branch_table s ≡ Ok (l, p) → length l ≤ length s
 unfolding branch_table
 branch-table-few s l p e =
-    let last : List BranchRow → ℕ → Outcome (Placed (List BranchRow)) = λ m q. text (Layout (length m + 5)) "\n" s q >>= λ n. good (m, n) in
+    let last : List BranchRow → ℕ → Outcome (Placed (List BranchRow)) = λ m q. text (Layout (length m + 5)) "\n" s q >>= λ n. Ok (m, n) in
     let a = bound (text (Layout 4) "from,to,phases,kind,p1,p2,p3,p4,p5,p6,p7,p8,p9,p10,p11,p12\n" s 0) (λ q. rows branch_row (length s) s 5 q (empty_line s) >>= λ y. last y.0 y.1) (l, p) e in
     let b = bound (rows branch_row (length s) s 5 a.value (empty_line s)) (λ y. last y.0 y.1) (l, p) a.rest in
-    let c = bound (text (Layout (length b.value.0 + 5)) "\n" s b.value.1) (λ n. good (b.value.0, n)) (l, p) b.rest in
+    let c = bound (text (Layout (length b.value.0 + 5)) "\n" s b.value.1) (λ n. Ok (b.value.0, n)) (l, p) b.rest in
     omega (arith, length-is branch_row (b.value.0, c.value) l p c.rest, rows_few branch_row (length s) s 5 a.value (empty_line s) b.value.0 b.value.1 b.came)
 
 load-table-up-to : {n : ℕ} (line : ℕ) (s : List ℕ) → line + length s ≤ n → UpTo n (load_table line s)
@@ -89,11 +90,11 @@ unfolding load_table
 load-table-up-to line s q = then-only (text (Layout line) "node,phase,kind,vn,p,q\n" s 0) _ (text-only (Layout line) (omega arith) _ s 0)
     (λ a e. then-only (rows load_row (length s) s (line + 1) a (file_end s)) _ (rows-up-to load_row load-row-up-to (length s) s (line + 1) a (file_end s) (omega arith)) (λ x f. good-only _))
 
-load-table-few : (line : ℕ) (s : List ℕ) (l : List LoadRow) → load_table line s ≡ good l → length l ≤ length s
+load-table-few : (line : ℕ) (s : List ℕ) (l : List LoadRow) → load_table line s ≡ Ok l → length l ≤ length s
 unfolding load_table
 load-table-few line s l e =
-    let a = bound (text (Layout line) "node,phase,kind,vn,p,q\n" s 0) (λ q. rows load_row (length s) s (line + 1) q (file_end s) >>= λ y. good y.0) l e in
-    let b = bound (rows load_row (length s) s (line + 1) a.value (file_end s)) (λ y. good y.0) l a.rest in
+    let a = bound (text (Layout line) "node,phase,kind,vn,p,q\n" s 0) (λ q. rows load_row (length s) s (line + 1) q (file_end s) >>= λ y. Ok y.0) l e in
+    let b = bound (rows load_row (length s) s (line + 1) a.value (file_end s)) (λ y. Ok y.0) l a.rest in
     let z : length b.value.0 ≡ length l = ap length (same_good _ l b.rest) in
     omega (arith, rows_few load_row (length s) s (line + 1) a.value (file_end s) b.value.0 b.value.1 b.came)
 
@@ -112,12 +113,12 @@ record Few (s : List ℕ) (r : Rows) : Type 0 where
 
 -- what the whole is made of, with the tables read
 abbrev whole_of : Row → List BranchRow → List LoadRow → Outcome Rows
-whole_of x l m = good (record { source = word_of x 0; given = x.values; branches = l; loads = m })
+whole_of x l m = Ok (record { source = word_of x 0; given = x.values; branches = l; loads = m })
 
-whole-few : (s : List ℕ) (x : Row) (l : List BranchRow) (m : List LoadRow) (r : Rows) → whole_of x l m ≡ good r → length l ≤ length s → length m ≤ length s → Few s r
+whole-few : (s : List ℕ) (x : Row) (l : List BranchRow) (m : List LoadRow) (r : Rows) → whole_of x l m ≡ Ok r → length l ≤ length s → length m ≤ length s → Few s r
 whole-few s x l m r e p q = subst (Few s) (same_good (record { source = word_of x 0; given = x.values; branches = l; loads = m }) r e) (record { branches = p; loads = q })
 
-layout-few : (s : List ℕ) (r : Rows) → layout s ≡ good r → Few s r
+layout-few : (s : List ℕ) (r : Rows) → layout s ≡ Ok r → Few s r
 unfolding layout
 layout-few s r e =
     let loads : Row → List BranchRow → List ℕ → Outcome Rows = λ x l t. load_table (length l + 6) t >>= whole_of x l in

@@ -1,8 +1,8 @@
 -- The study: the value of each of its refusals, and the length of a report. Assumes nothing.
-use Rattle.std.specs.Prelude.{List, ◌≡◌, refl, ◌≤◌, ℕ, ltb, length}
+use Rattle.std.specs.Prelude.{List, ◌≡◌, refl, ◌≤◌, ℕ, ltb, length, Ok, Err}
 use Rattle.std.proofs.Common.{ap, arith, le-ltb, ltb-false}
 use Rattle.answers.specs.AnswerLaws.{bound, same_good}
-use Rattle.answers.specs.Answers.{Outcome, ◌>>=◌, ◌>>◌, good, refuse_if, refused, value_of}
+use Rattle.answers.specs.Answers.{Outcome, ◌>>=◌, ◌>>◌, refuse_if, value_of}
 use Rattle.answers.specs.Only.{after-only, good-only, if-only, then-only}
 use Rattle.answers.specs.declared.Refusal.{Refusal}
 use Rattle.answers.specs.declared.Refusal.TheVariants.{BufferShort}
@@ -15,7 +15,7 @@ use Rattle.feeder.proofs.TapLaws.{sound-taps}
 use Rattle.ladder.specs.Stages.{fitted-is, fitted_from, fitted_with, text_of}
 use Rattle.ladder.specs.Study.{Report, fitted, report, study_of}
 use Rattle.ladder.proofs.StudyLaws.{refused-from, study-good}
-use Rattle.ladder.specs.declared.Study.TheVariants.{NoReport, Written}
+use Rattle.ladder.specs.declared.Written.{Written}
 use Rattle.pair.specs.SolutionSizes.{ended-writable}
 use Rattle.report.proofs.RoundTrip.{report-short}
 use Rattle.rounds.specs.Rounds.{Regulated, regulated}
@@ -26,7 +26,7 @@ regulated-up-to : {n : ℕ} (f : Feeder) → f.limit ≤ n → 32 ≤ n → UpTo
 regulated-up-to f p q = regulated-only f q p (λ j q. record { for-30 = omega arith; for-31 = omega arith; for-32 = omega arith; for-33 = omega arith })
 
 -- the report's length, which 40 returns
-text-short : (s : List ℕ) (f : Feeder) (y : Regulated) → reading s ≡ good f → regulated f ≡ good y → length (text_of y.feeder y.solution) ≤ 65536
+text-short : (s : List ℕ) (f : Feeder) (y : Regulated) → reading s ≡ Ok f → regulated f ≡ Ok y → length (text_of y.feeder y.solution) ≤ 65536
 text-short s f y e g = ltb-false 65536 _ (report-short y.feeder y.solution.voltages y.solution.currents y.solution.sweeps (ended-writable s f y e (regulated-end f y (sound-taps s f (sound s f e)) g)))
 
 fitted-up-to : (s : List ℕ) (n : ℕ) → UpTo 131078 (fitted s n)
@@ -36,21 +36,21 @@ fitted-up-to s n = rw (fitted-is s n) (then-only (reading s) _ (reading-up-to s)
     (λ y g. let t : List ℕ = text_of y.feeder y.solution in let k = text-short s f y e g in after-only (refuse_if (ltb n (length t)) (BufferShort (length t))) _ (if-only (ltb n (length t)) (BufferShort (length t)) (omega arith)) (good-only _))))
 
 -- of the answer
-pub study-value : (s : List ℕ) (n : ℕ) (x : Refusal) → study_of s n ≡ NoReport x → value_of x ≤ 131078
+pub study-value : (s : List ℕ) (n : ℕ) (x : Refusal) → study_of s n ≡ Err x → value_of x ≤ 131078
 unfolding study_of
 study-value s n x e = (fitted-up-to s n).each x (refused-from (fitted s n) x e)
 
-pub study-length : (s : List ℕ) (n len k : ℕ) → study_of s n ≡ Written len k → len ≤ 65536
-study-length s n len k e = let w = study-good s n len k e in omega (arith, w.text-length, text-short s w.feeder w.found w.read w.regulated-as)
+pub study-length : (s : List ℕ) (n : ℕ) (w : Written) → study_of s n ≡ Ok w → w.length ≤ 65536
+study-length s n w e = let g = study-good s n w e in omega (arith, g.text-length, text-short s g.feeder g.found g.read g.regulated-as)
 
-pub study-sweeps : (s : List ℕ) (n len k : ℕ) → study_of s n ≡ Written len k → k ≤ 100
-study-sweeps s n len k e = let w = study-good s n len k e in omega (arith, w.limit, (fit s w.feeder w.read).few-sweeps)
+pub study-sweeps : (s : List ℕ) (n : ℕ) (w : Written) → study_of s n ≡ Ok w → w.sweeps ≤ 100
+study-sweeps s n w e = let g = study-good s n w e in omega (arith, g.limit, (fit s g.feeder g.read).few-sweeps)
 
 -- a buffer of 65,536 bytes is never too short: 40 is no answer, and what is answered is the report's own outcome
-report-text-short : (s : List ℕ) (t : Report) → report s ≡ good t → length t.text ≤ 65536
+report-text-short : (s : List ℕ) (t : Report) → report s ≡ Ok t → length t.text ≤ 65536
 unfolding report
 report-text-short s t e =
-    let whole : Regulated → Outcome Report = λ y. good (record { text = text_of y.feeder y.solution; sweeps = y.solution.sweeps }) in
+    let whole : Regulated → Outcome Report = λ y. Ok (record { text = text_of y.feeder y.solution; sweeps = y.solution.sweeps }) in
     let a = bound (reading s) (λ f. regulated f >>= whole) t e in
     let b = bound (regulated a.value) whole t a.rest in
     let l : length (text_of b.value.feeder b.value.solution) ≡ length t.text = ap (λ (y : Report). length y.text) (same_good (record { text = text_of b.value.feeder b.value.solution; sweeps = b.value.solution.sweeps }) t b.rest) in
@@ -60,6 +60,6 @@ pub never-short : (s : List ℕ) (n : ℕ) → 65536 ≤ n → fitted s n ≡ re
 unfolding fitted
 never-short s n q = by (report s) refl
   where
-    by : (o : Outcome Report) → report s ≡ o → (o >>= λ t. refuse_if (ltb n (length t.text)) (BufferShort (length t.text)) >> good t) ≡ o
-    by (good t) e = let k = report-text-short s t e in rw (le-ltb n (length t.text) (omega arith))
-    by (refused r) e = refl
+    by : (o : Outcome Report) → report s ≡ o → (o >>= λ t. refuse_if (ltb n (length t.text)) (BufferShort (length t.text)) >> Ok t) ≡ o
+    by (Ok t) e = let k = report-text-short s t e in rw (le-ltb n (length t.text) (omega arith))
+    by (Err r) e = refl

@@ -2,19 +2,18 @@
 use Rattle.std.specs.Prelude.{◌≡◌, ◌%◌, ◌*◌, ◌+◌, ◌/◌, ◌<◌, ◌^◌, ℕ}
 use Rattle.answers.specs.Answers.{Done, Outcome, Told}
 use Rattle.ladder.specs.Study.{Report, report_length, study_number, study_sweeps, study_value, sweeps_told}
-use Rattle.ladder.specs.declared.Study.{Study}
+use Rattle.ladder.specs.declared.Written.{Written}
 use Rattle.verdicts.specs.Check.{check_number, check_value}
-use Rattle.verdicts.specs.declared.Verdict.{Verdict}
 
 -- the sweeps in bits 48 to 63, the number in bits 32 to 47, the value in bits 0 to 31
 unfoldable pub word : ℕ → ℕ → ℕ → ℕ
 word sweeps number value = sweeps * 2 ^ 48 + (number * 2 ^ 32 + value)
 
 -- number 0 is a report, with its length and its sweeps, or a pass, with 0; a refusal and the check have no sweeps
-abbrev pub word_of_study : Study → ℕ
+abbrev pub word_of_study : Outcome Written → ℕ
 word_of_study r = word (study_sweeps r) (study_number r) (study_value r)
 
-abbrev pub word_of_check : Verdict → ℕ
+abbrev pub word_of_check : Outcome Done → ℕ
 word_of_check v = word 0 (check_number v) (check_value v)
 
 -- a word taken apart, as a caller does it

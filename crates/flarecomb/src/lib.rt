@@ -6,12 +6,11 @@ ghost use Rattle.account.specs.Account.{PowerAccount};
 ghost use Rattle.answers.specs.Answers.{number_of, value_of};
 ghost use Rattle.flarecomb.specs.Words.{CheckWord, StudyWord, word, word_of_check, word_of_study};
 ghost use Rattle.ladder.specs.Study.{buffer_of, fitted, study_of};
-ghost use Rattle.verdicts.specs.Check.{check_of, checked};
+ghost use Rattle.verdicts.specs.Check.{checked};
 
-use answers::{Refusal, number_of, value_of};
-use ladder::{Study, study_feeder};
+use answers::Refusal;
+use ladder::study_feeder;
 use report_check::check;
-use verdicts::Verdict;
 
 // sweeps · 2^48 + number · 2^32 + value
 fn word_of(sweeps: usize, number: usize, value: usize) -> u64
@@ -28,8 +27,8 @@ fn refusal_word(x: Refusal) -> u64
     requires { value_of x < 2 ^ 32 }
     ensures { result ≡ word 0 (number_of x) (value_of x) }
 {
-    let number = number_of(x);
-    let value = value_of(x);
+    let number = x.number();
+    let value = x.value();
     word_of(0, number, value)
 }
 
@@ -42,21 +41,21 @@ pub extern "C" fn flarecomb_study(feeder: &[u8], out: &mut [u8]) -> u64
 {
     let answer = study_feeder(feeder, out);
     match answer {
-        Study::Written(length, sweeps) => word_of(sweeps, 0, length),
-        Study::NoReport(x) => refusal_word(x),
+        Ok(written) => word_of(written.sweeps, 0, written.length),
+        Err(x) => refusal_word(x),
     }
 }
 
 // The check of a report against its feeder: 0 is a pass, and a pass implies the power account. For all bytes and all lengths.
 #[unsafe(no_mangle)]
 pub extern "C" fn flarecomb_check(feeder: &[u8], report: &[u8]) -> u64
-    ensures answer { result ≡ word_of_check (check_of feeder.now report.now) }
+    ensures answer { result ≡ word_of_check (checked feeder.now report.now) }
     ensures account { result ≡ 0 → PowerAccount feeder.now report.now }
     ensures told { CheckWord (checked feeder.now report.now) result }
 {
     let verdict = check(feeder, report);
     match verdict {
-        Verdict::Pass => word_of(0, 0, 0),
-        Verdict::Fail(x) => refusal_word(x),
+        Ok(()) => word_of(0, 0, 0),
+        Err(x) => refusal_word(x),
     }
 }

@@ -1,8 +1,7 @@
 // The second solver's numbers: 64-bit floats, and phasors (re, im) of them.
-ghost use Rattle.std.specs.Prelude.{◌≤◌};
-
-use feeder::Three;
+use feeder::{PerPhase, Phases};
 use integers::Pair;
+use std::ops::{Add, Mul, Neg, Sub};
 
 // A voltage in cV, a current in mA, an impedance in µΩ, or a power in VA.
 #[derive(Clone, Copy)]
@@ -11,130 +10,106 @@ pub struct Phasor {
     pub im: f64,
 }
 
-// One for each phase.
-#[derive(Clone, Copy)]
-pub struct Phasors {
-    pub a: Phasor,
-    pub b: Phasor,
-    pub c: Phasor,
-}
-
-// Phasors for each node, or for the branch that feeds it, as numbers that can be lent: re and im on each phase.
-pub type PhasorRows = [[f64; 6]; 201];
-
-// A real number for each phase.
-#[derive(Clone, Copy)]
-pub struct Reals {
-    pub a: f64,
-    pub b: f64,
-    pub c: f64,
-}
+pub const ZERO: Phasor = Phasor { re: 0.0, im: 0.0 };
 
 // Every number of a feeder or of a report is far below 2^53, so nothing is lost.
 pub fn real(n: i64) -> f64 {
     std::num::nearest_i64_to_f64(n)
 }
 
-pub fn phasor_of(x: Pair) -> Phasor {
-    Phasor {
-        re: real(x.re),
-        im: real(x.im),
+impl From<Pair> for Phasor {
+    fn from(x: Pair) -> Phasor {
+        Phasor {
+            re: real(x.re),
+            im: real(x.im),
+        }
     }
 }
 
-pub fn phasors_of(x: Three) -> Phasors {
-    Phasors {
-        a: phasor_of(x.a),
-        b: phasor_of(x.b),
-        c: phasor_of(x.c),
+impl Add for Phasor {
+    type Output = Phasor;
+
+    fn add(self, y: Phasor) -> Phasor {
+        Phasor {
+            re: self.re + y.re,
+            im: self.im + y.im,
+        }
     }
 }
 
-pub fn no_phasors() -> Phasors {
-    let zero = Phasor { re: 0.0, im: 0.0 };
-    Phasors {
-        a: zero,
-        b: zero,
-        c: zero,
+impl Sub for Phasor {
+    type Output = Phasor;
+
+    fn sub(self, y: Phasor) -> Phasor {
+        Phasor {
+            re: self.re - y.re,
+            im: self.im - y.im,
+        }
     }
 }
 
-pub fn add(x: Phasor, y: Phasor) -> Phasor {
-    Phasor {
-        re: x.re + y.re,
-        im: x.im + y.im,
+impl Neg for Phasor {
+    type Output = Phasor;
+
+    fn neg(self) -> Phasor {
+        Phasor {
+            re: -self.re,
+            im: -self.im,
+        }
     }
 }
 
-pub fn sub(x: Phasor, y: Phasor) -> Phasor {
-    Phasor {
-        re: x.re - y.re,
-        im: x.im - y.im,
+impl Mul for Phasor {
+    type Output = Phasor;
+
+    fn mul(self, y: Phasor) -> Phasor {
+        Phasor {
+            re: self.re * y.re - self.im * y.im,
+            im: self.re * y.im + self.im * y.re,
+        }
     }
 }
 
-pub fn mul(x: Phasor, y: Phasor) -> Phasor {
-    Phasor {
-        re: x.re * y.re - x.im * y.im,
-        im: x.re * y.im + x.im * y.re,
+impl Mul<f64> for Phasor {
+    type Output = Phasor;
+
+    fn mul(self, k: f64) -> Phasor {
+        Phasor {
+            re: self.re * k,
+            im: self.im * k,
+        }
     }
 }
 
-pub fn scale(k: f64, x: Phasor) -> Phasor {
-    Phasor {
-        re: k * x.re,
-        im: k * x.im,
+impl Phasor {
+    // A length, which stands in re.
+    pub fn of_length(x: f64) -> Phasor {
+        Phasor { re: x, im: 0.0 }
+    }
+
+    pub fn conj(self) -> Phasor {
+        Phasor {
+            re: self.re,
+            im: -self.im,
+        }
+    }
+
+    // The square of the length.
+    pub fn square(self) -> f64 {
+        self.re * self.re + self.im * self.im
+    }
+
+    pub fn length(self) -> f64 {
+        self.square().sqrt()
+    }
+
+    // The larger of the distances in re and in im.
+    pub fn distance(self, y: Phasor) -> f64 {
+        larger((self.re - y.re).abs(), (self.im - y.im).abs())
     }
 }
 
-pub fn conj(x: Phasor) -> Phasor {
-    Phasor {
-        re: x.re,
-        im: -x.im,
-    }
-}
-
-pub fn add_each(x: Phasors, y: Phasors) -> Phasors {
-    Phasors {
-        a: add(x.a, y.a),
-        b: add(x.b, y.b),
-        c: add(x.c, y.c),
-    }
-}
-
-pub fn phasors_at(rows: &PhasorRows, k: usize) -> Phasors
-    requires { k ≤ 200 }
-{
-    let n = rows[k];
-    let a = Phasor { re: n[0], im: n[1] };
-    let b = Phasor { re: n[2], im: n[3] };
-    let c = Phasor { re: n[4], im: n[5] };
-    Phasors { a, b, c }
-}
-
-pub fn put_phasors(rows: &mut PhasorRows, k: usize, x: Phasors)
-    requires { k ≤ 200 }
-{
-    let a = x.a;
-    let b = x.b;
-    let c = x.c;
-    let n = [a.re, a.im, b.re, b.im, c.re, c.im];
-    rows[k] = n;
-}
-
-// Adds x to what stands at place k.
-pub fn add_at(rows: &mut PhasorRows, k: usize, x: Phasors)
-    requires { k ≤ 200 }
-{
-    let held = phasors_at(rows, k);
-    put_phasors(rows, k, add_each(held, x));
-}
-
-pub fn absolute(x: f64) -> f64 {
-    if x < 0.0 { -x } else { x }
-}
-
-// The larger of the two. Where one of them is no number, by a division by 0, neither is the answer.
+// The larger of the two. Where one of them is no number, by a division by 0, neither is the answer, where f64's max would pass over it.
 pub fn larger(x: f64, y: f64) -> f64 {
     if y <= x {
         return x;
@@ -145,23 +120,34 @@ pub fn larger(x: f64, y: f64) -> f64 {
     x + y
 }
 
-// The square root, by Newton's steps from a start above it. Each halves what is far too large, so that 100 are enough up to 10^50.
-pub fn root(x: f64) -> f64 {
-    let mut y = x + 1.0;
-    let mut step: usize = 0;
-    while step < 100 {
-        y = (y + x / y) / 2.0;
-        step += 1;
+pub type Phasors = PerPhase<Phasor>;
+
+pub type Reals = PerPhase<f64>;
+
+// Phasors for each node, or for the branch that feeds it.
+pub type PhasorRows = [Phasors; 201];
+
+pub fn no_rows() -> PhasorRows {
+    [PerPhase::same(ZERO); 201]
+}
+
+// The voltages at each node and the currents at the far end of each branch, by node numbers as in the feeder's arrays; or how far they are off.
+#[derive(Drop)]
+pub struct Solution {
+    pub voltages: PhasorRows,
+    pub currents: PhasorRows,
+}
+
+impl Solution {
+    pub fn zero() -> Solution {
+        Solution {
+            voltages: no_rows(),
+            currents: no_rows(),
+        }
     }
-    y
 }
 
-// The length of a phasor.
-pub fn length(x: Phasor) -> f64 {
-    root(x.re * x.re + x.im * x.im)
-}
-
-// The larger of the distances in re and in im.
-pub fn distance(x: Phasor, y: Phasor) -> f64 {
-    larger(absolute(x.re - y.re), absolute(x.im - y.im))
+// 1 for a phase that is there, and 0 for one that is not.
+pub fn present(phases: Phases) -> Reals {
+    phases.map(|there| if there { 1.0 } else { 0.0 })
 }

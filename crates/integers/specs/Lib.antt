@@ -12,3 +12,4 @@ pub mod RootSteps
 pub mod PairLaws
 pub mod ListLaws
 pub mod Machine
+pub mod Equal

@@ -6,7 +6,7 @@ pub mod pairs;
 pub mod whole;
 
 // Voltage in cV, current in mA, impedance in µΩ, power in VA or grains.
-#[derive(Clone, Copy)]
+#[derive(Clone, Copy, PartialEq, Eq)]
 pub struct Pair {
     pub re: i64,
     pub im: i64,

@@ -85,9 +85,7 @@ pub fn square(x: Pair) -> u64
 pub fn within(x: Pair, n: u64) -> bool
     ensures { result ≡ within n x }
 {
-    let p = whole::inside(x.re, n);
-    let q = whole::inside(x.im, n);
-    p && q
+    whole::inside(x.re, n) && whole::inside(x.im, n)
 }
 
 // Whether x and y differ by at most n in each part.
@@ -96,6 +94,5 @@ pub fn close(x: Pair, y: Pair, n: u64) -> bool
     requires within_2 { Within (2 ^ 61) y }
     ensures { result ≡ close n x y }
 {
-    let d = sub(x, y);
-    within(d, n)
+    within(sub(x, y), n)
 }

@@ -58,23 +58,18 @@ pub fn cross_sub(a: i64, b: i64, c: i64, d: i64) -> i64
     sub(x, y)
 }
 
-// The size of a. The least number has no negative, so one is added before the sign is changed, and again after.
+// The size of a.
 pub fn size(a: i64) -> u64
     ensures { result ≡ nat_abs a }
 {
-    if a < 0 {
-        (-(a + 1)) as u64 + 1
-    } else {
-        a as u64
-    }
+    a.unsigned_abs()
 }
 
 // Whether a is within ±n.
 pub fn inside(a: i64, n: u64) -> bool
     ensures { result ≡ inside n a }
 {
-    let m = size(a);
-    m <= n
+    size(a) <= n
 }
 
 // m as a signed number.
@@ -151,8 +146,7 @@ pub fn root(n: u64) -> Rooted
     let mut square = first_place_squared(digits);
     let mut trial = square;
     let mut left = n;
-    let mut steps = 0u32;
-    while steps < digits {
+    for _ in 0..digits {
         let next = square >> 2;
         let low = (trial >> 1) - next;
         if trial <= left {
@@ -162,7 +156,9 @@ pub fn root(n: u64) -> Rooted
             trial = low;
         }
         square = next;
-        steps += 1;
     }
-    Rooted { root: trial, steps }
+    Rooted {
+        root: trial,
+        steps: digits,
+    }
 }

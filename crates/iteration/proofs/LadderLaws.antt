@@ -1,8 +1,8 @@
 -- What is known where the study has a solution: V(k−1) and its I, none of 30 to 33, and a number of sweeps from 1 to the limit; and what may be refused. Assumes nothing.
-use Rattle.std.specs.Prelude.{Bool, cond, false, true, List, [], ◌≡◌, refl, ◌+◌, ◌<◌, ◌≤◌, suc, zero, ℕ, get_or}
+use Rattle.std.specs.Prelude.{Bool, cond, false, true, List, [], ◌≡◌, refl, ◌+◌, ◌<◌, ◌≤◌, suc, zero, ℕ, get_or, Ok}
 use Rattle.std.proofs.Common.{subst, arith}
 use Rattle.answers.specs.AnswerLaws.{not-if, not-refused, same_good}
-use Rattle.answers.specs.Answers.{◌>>◌, good, refuse_if}
+use Rattle.answers.specs.Answers.{◌>>◌, refuse_if}
 use Rattle.answers.specs.Only.{Only, after-only, cond-only, good-only, if-only, refused-only}
 use Rattle.answers.specs.declared.Refusal.{Refusal}
 use Rattle.answers.specs.declared.Refusal.TheVariants.{CurrentBeyond, LoadBeyond, NotSettled, VoltageBeyond, ZeroVoltage}
@@ -10,7 +10,7 @@ use Rattle.equations.specs.Equations.{at, current_beyond, currents, load_beyond,
 use Rattle.equations.specs.ThreeLaws.{Close3}
 use Rattle.feeder.specs.Feeder.{Feeder, abc, row_count}
 use Rattle.feeder.specs.RowLaws.{each-true}
-use Rattle.feeder.specs.declared.Three.{Three}
+use Rattle.feeder.specs.Phased.{Three}
 use Rattle.integers.specs.ListLaws.{count-true}
 use Rattle.integers.specs.Lists.{all}
 use Rattle.integers.specs.PairLaws.{close-true}
@@ -23,7 +23,7 @@ pub sweep-step : (f : Feeder) (left k : ℕ) (v : List Three) → sweep f (suc l
     >> (refuse_if (load_beyond f v) (LoadBeyond k)
     >> (refuse_if (current_beyond f (currents f v)) (CurrentBeyond k)
     >> (refuse_if (voltage_beyond f (voltages f (currents f v))) (VoltageBeyond k)
-    >> cond (settled f v (voltages f (currents f v))) (good (record { voltages = v; currents = currents f v; sweeps = k })) (sweep f left (k + 1) (voltages f (currents f v)))))))
+    >> cond (settled f v (voltages f (currents f v))) (Ok (record { voltages = v; currents = currents f v; sweeps = k })) (sweep f left (k + 1) (voltages f (currents f v)))))))
 unfolding sweep
 sweep-step f left k v = refl
 
@@ -41,7 +41,7 @@ pub record Solved (f : Feeder) (x : Solution) : Type 0 where
   pub first : 1 ≤ x.sweeps
   pub last : x.sweeps ≤ f.limit
 
-sweep-solved : (f : Feeder) (left k : ℕ) (v b : List Three) (x : Solution) → v ≡ voltages f b → voltage_beyond f v ≡ false → 1 ≤ k → k + left ≤ suc f.limit → sweep f left k v ≡ good x → Solved f x
+sweep-solved : (f : Feeder) (left k : ℕ) (v b : List Three) (x : Solution) → v ≡ voltages f b → voltage_beyond f v ≡ false → 1 ≤ k → k + left ≤ suc f.limit → sweep f left k v ≡ Ok x → Solved f x
 unfolding sweep
 sweep-solved f zero k v b x p t q w e = not-refused _ x e
 sweep-solved f (suc left) k v b x p t q w e =
@@ -52,19 +52,19 @@ sweep-solved f (suc left) k v b x p t q w e =
     go w0.0 w1.0 w2.0 w3.0 (settled f v (voltages f (currents f v))) refl w3.1 (λ e. sweep-solved f left (k + 1) (voltages f (currents f v)) (currents f v) x refl w3.0 (omega arith) (omega arith) e)
   where
     go : zero_voltage f v ≡ false → load_beyond f v ≡ false → current_beyond f (currents f v) ≡ false → voltage_beyond f (voltages f (currents f v)) ≡ false
-        → (c : Bool) → settled f v (voltages f (currents f v)) ≡ c → cond c (good (record { voltages = v; currents = currents f v; sweeps = k })) (sweep f left (k + 1) (voltages f (currents f v))) ≡ good x
-        → (sweep f left (k + 1) (voltages f (currents f v)) ≡ good x → Solved f x) → Solved f x
+        → (c : Bool) → settled f v (voltages f (currents f v)) ≡ c → cond c (Ok (record { voltages = v; currents = currents f v; sweeps = k })) (sweep f left (k + 1) (voltages f (currents f v))) ≡ Ok x
+        → (sweep f left (k + 1) (voltages f (currents f v)) ≡ Ok x → Solved f x) → Solved f x
     go a0 a1 a2 a3 true c e far = subst (Solved f) (same_good _ x e)
         (record { before = b; voltages-are = p; currents-are = refl; t30 = a0; t31 = a1; t32 = a2; t33 = t; next33 = a3; stopped = c; first = q; last = omega arith })
     go a0 a1 a2 a3 false c e far = far e
 
 -- of every solution
-pub solved : (f : Feeder) (x : Solution) → solution f ≡ good x → Solved f x
+pub solved : (f : Feeder) (x : Solution) → solution f ≡ Ok x → Solved f x
 unfolding solution
 solved f x e = let w = not-if _ _ _ _ e in sweep-solved f f.limit 1 (voltages f []) [] x refl w.0 (omega arith) (omega arith) w.1
 
 -- the number of sweeps made
-pub sweeps-in : (f : Feeder) (x : Solution) → solution f ≡ good x → (1 ≤ x.sweeps) × (x.sweeps ≤ f.limit)
+pub sweeps-in : (f : Feeder) (x : Solution) → solution f ≡ Ok x → (1 ≤ x.sweeps) × (x.sweeps ≤ f.limit)
 sweeps-in f x e = let w = solved f x e in (w.first, w.last)
 
 -- "no re or im moved more than tol": the voltages of the last sweep are close to those that are reported

@@ -16,34 +16,12 @@ use answers::Refusal;
 use arrays::{Branches, Loads, Names, Places, Settings, Threes, copy_threes, three_at};
 use devices::threes;
 use integers::Pair;
-use sweeps::{Work, work_currents, work_voltages};
+use sweeps::{work_currents, work_voltages};
 
-// What a sweep comes to: one of the refusals 30 to 33, or voltages that moved no more than the tolerance, or a further sweep.
-#[derive(Clone, Copy)]
-pub enum Step {
-    Stopped(Refusal),
-    Settled,
-    Again,
-}
-
-// A sweep, and the power that the loads draw.
-#[derive(Clone, Copy)]
-pub struct Swept {
-    pub step: Step,
-    pub drawn: Pair,
-}
-
-// The end of the iteration: the number of sweeps made, or why there is no solution.
-#[derive(Clone, Copy)]
-pub enum Solving {
-    Solved(usize),
-    Unsolved(Refusal),
-}
-
-// The iteration, and the power drawn in the last sweep where it is solved.
+// The iteration: the number of sweeps made, and the power that the loads draw in the last one.
 #[derive(Clone, Copy)]
 pub struct Run {
-    pub solving: Solving,
+    pub sweeps: usize,
     pub drawn: Pair,
 }
 
@@ -54,19 +32,18 @@ fn still(rows: usize, v: &Threes, w: &Threes, tol: u64) -> bool
     requires by_index_2 { (k : ℕ) → Within3 2000000 (get_or (threes_of w.now) k zero3) }
     ensures { result ≡ all (still_at tol (threes_of v.now) (threes_of w.now)) (count 1 rows) }
 {
-    let mut k = 1;
-    while k <= rows {
+    for k in 1..rows + 1 {
         let x = three_at(w, k);
         let y = three_at(v, k);
         if !threes::close(x, y, tol) {
             return false;
         }
-        k += 1;
     }
     true
 }
 
-// Sweep k from the voltages v: 30 to 32, then 33, then whether the voltages have settled. `next` gets the sweep's voltages, `i` its currents.
+// Sweep k from the voltages v: 30 to 32, then 33, then whether the voltages have settled: no more than the tolerance away from v. Then the power that the loads
+// draw is returned, else none, for a further sweep. `next` gets the sweep's voltages, `i` its currents.
 fn sweep_once(
     settings: Settings,
     nodes: &Names,
@@ -78,7 +55,7 @@ fn sweep_once(
     k: usize,
     next: &mut Threes,
     i: &mut Threes,
-) -> Swept
+) -> Result<Option<Pair>, Refusal>
     requires known { Known (network_of settings nodes.now branches.now loads.now order.now rank.now) }
     requires by_index { (k : ℕ) → Within3 2000000 (get_or (threes_of v.now) k zero3) }
     requires room { Room settings.rows (threes_of next.old) }
@@ -86,41 +63,16 @@ fn sweep_once(
     ensures value { (f : Feeder) → Held f (network_of settings nodes.now branches.now loads.now order.now rank.now) → SweptIs f (threes_of v.now) k result (threes_of next.new) (threes_of i.new) }
     ensures size { SmallSwept settings.rows result (threes_of next.new) (threes_of i.new) }
 {
-    let x = work_currents(settings, nodes, branches, loads, order, rank, v, i);
-    let drawn = x.drawn;
-    let work = x.work;
-    match work {
-        Work::ZeroVoltage => Swept {
-            step: Step::Stopped(Refusal::ZeroVoltage(k)),
-            drawn,
-        },
-        Work::LoadBeyond => Swept {
-            step: Step::Stopped(Refusal::LoadBeyond(k)),
-            drawn,
-        },
-        Work::CurrentBeyond => Swept {
-            step: Step::Stopped(Refusal::CurrentBeyond(k)),
-            drawn,
-        },
-        Work::Fine => {
-            if !work_voltages(settings, nodes, branches, loads, order, rank, i, next) {
-                return Swept {
-                    step: Step::Stopped(Refusal::VoltageBeyond(k)),
-                    drawn,
-                };
-            }
-            if still(settings.rows, v, next, settings.tol) {
-                Swept {
-                    step: Step::Settled,
-                    drawn,
-                }
-            } else {
-                Swept {
-                    step: Step::Again,
-                    drawn,
-                }
-            }
-        }
+    let drawn = work_currents(settings, nodes, branches, loads, order, rank, v, i).map_err(
+        |e| e.refusal(k),
+    )?;
+    if !work_voltages(settings, nodes, branches, loads, order, rank, i, next) {
+        return Err(Refusal::VoltageBeyond(k));
+    }
+    if still(settings.rows, v, next, settings.tol) {
+        Ok(Some(drawn))
+    } else {
+        Ok(None)
     }
 }
 
@@ -135,50 +87,26 @@ pub fn solve(
     rank: &Places,
     v: &mut Threes,
     i: &mut Threes,
-) -> Run
+) -> Result<Run, Refusal>
     requires known { Known (network_of settings nodes.now branches.now loads.now order.now rank.now) }
     requires room { Room settings.rows (threes_of v.old) }
     requires i_value { threes_of i.old ≡ replicate 201 zero3 }
     ensures value { (f : Feeder) → Held f (network_of settings nodes.now branches.now loads.now order.now rank.now) → SolvedAs f (solution f) result (threes_of v.new) (threes_of i.new) }
     ensures size { SmallRun settings.rows result (threes_of i.new) }
 {
-    let zero = Pair { re: 0, im: 0 };
     if !work_voltages(settings, nodes, branches, loads, order, rank, i, v) {
-        return Run {
-            solving: Solving::Unsolved(Refusal::VoltageBeyond(0)),
-            drawn: zero,
-        };
+        return Err(Refusal::VoltageBeyond(0));
     }
     let mut next = [[0i64; 6]; 201];
     let limit = settings.limit;
-    let mut k = 1;
-    while k <= limit {
-        let s = sweep_once(
+    for k in 1..limit + 1 {
+        let settled = sweep_once(
             settings, nodes, branches, loads, order, rank, v, k, &mut next, i,
-        );
-        let drawn = s.drawn;
-        let step = s.step;
-        match step {
-            Step::Stopped(x) => {
-                return Run {
-                    solving: Solving::Unsolved(x),
-                    drawn,
-                };
-            }
-            Step::Settled => {
-                return Run {
-                    solving: Solving::Solved(k),
-                    drawn,
-                };
-            }
-            Step::Again => {
-                copy_threes(&next, settings.rows, v);
-                k += 1;
-            }
+        )?;
+        if let Some(drawn) = settled {
+            return Ok(Run { sweeps: k, drawn });
         }
+        copy_threes(&next, settings.rows, v);
     }
-    Run {
-        solving: Solving::Unsolved(Refusal::NotSettled(limit)),
-        drawn: zero,
-    }
+    Err(Refusal::NotSettled(limit))
 }

@@ -1,5 +1,5 @@
 -- The study points at the first row of its feeder's file with a fault (02, S-4). Assumes nothing.
-use Rattle.std.specs.Prelude.{List, ◌≡◌, ◌≤◌, ℕ, ltb, length}
+use Rattle.std.specs.Prelude.{List, ◌≡◌, ◌≤◌, ℕ, ltb, length, Err}
 use Rattle.std.proofs.Common.{◌∙◌, ap, sym, arith}
 use Rattle.answers.specs.AnswerLaws.{stopped}
 use Rattle.answers.specs.Answers.{Outcome, ◌>>=◌, refuse_if}
@@ -11,8 +11,7 @@ use Rattle.feeder.specs.Pointing.{Late}
 use Rattle.ladder.specs.Stages.{fitted-is, fitted_from, fitted_with, text_of}
 use Rattle.ladder.specs.Study.{StudyPoints, answered, fitted, study_of}
 use Rattle.ladder.proofs.StudyLaws.{refused-from}
-use Rattle.ladder.specs.declared.Study.{Study}
-use Rattle.ladder.specs.declared.Study.TheVariants.{NoReport}
+use Rattle.ladder.specs.declared.Written.{Written}
 use Rattle.rounds.specs.Rounds.{regulated}
 use Rattle.rounds.proofs.RoundsLaws.{regulated-only}
 
@@ -23,7 +22,7 @@ fitted-late f n = then-only (regulated f) _ (regulated-only f (omega arith) (ome
     (λ y e. let t : ℕ = length (text_of y.feeder y.solution) in after-only (refuse_if (ltb n t) (BufferShort t)) _ (if-only (ltb n t) (BufferShort t) (omega arith)) (good-only _))
 
 -- the study goes by the reading
-study-reads : (s : List ℕ) (n : ℕ) → ByReading s (length s ≤ 65536) (λ y. study_of s n ≡ NoReport y)
+study-reads : (s : List ℕ) (n : ℕ) → ByReading s (length s ≤ 65536) (λ y. study_of s n ≡ Err y)
 unfolding study_of
 study-reads s n = record {
   short = λ h. h;
@@ -33,5 +32,5 @@ study-reads s n = record {
       (λ f e g. let z = (fitted-late f n).each y g in absurd (omega arith));
 }
 
-pub study-points : (s : List ℕ) (n : ℕ) {r : Study} → r ≡ study_of s n → StudyPoints s r
+pub study-points : (s : List ℕ) (n : ℕ) {r : Outcome Written} → r ≡ study_of s n → StudyPoints s r
 study-points s n e = rw e (points-into-feeder s (study-reads s n))

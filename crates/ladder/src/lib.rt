@@ -1,7 +1,7 @@
 // The study: a feeder file, the rounds of the iteration, and the report. specs/Study.antt says what it answers.
 #![tactic(auto)]
 
-ghost use Rattle.std.specs.Prelude.{◌≡◌, ℕ, ◌≤◌, length};
+ghost use Rattle.std.specs.Prelude.{◌≡◌, ◌≤◌, length, Ok};
 ghost use Rattle.arrays.specs.Arrays.{network_of, threes_of};
 ghost use Rattle.feeder.specs.Feeder.{Feeder};
 ghost use Rattle.feeder.specs.Network.{Held};
@@ -15,18 +15,17 @@ use answers::Refusal;
 use arrays::{Branches, Loads, Names, Places, Settings, Threes, three_at};
 use devices::power;
 use integers::Pair;
-use iteration::Solving;
 use passes::loss_pass;
-use reading::{ReadAnswer, read_into};
+use reading::read_into;
 use report_lines::Figures;
 use report_writer::{put_report, report_width};
 use rounds::regulate;
 
-// What the study answers: the length of the report that it wrote and the number of sweeps made, or why it wrote none.
-#[derive(Clone, Copy)]
-pub enum Study {
-    Written(usize, usize),
-    NoReport(Refusal),
+// Of a report that the study wrote: its length, and the number of sweeps made.
+#[derive(Clone, Copy, PartialEq, Eq)]
+pub struct Written {
+    pub length: usize,
+    pub sweeps: usize,
 }
 
 // The report of a solution, where the buffer has room for it.
@@ -42,7 +41,7 @@ fn write_solution(
     i: &Threes,
     drawn: Pair,
     out: &mut [u8],
-) -> Study
+) -> Result<Written, Refusal>
     requires known { Known (network_of settings nodes.now branches.now loads.now order.now rank.now) }
     requires small_currents { SmallCurrents settings.rows (threes_of i.now) }
     requires sweeps_bound { sweeps ≤ 100 }
@@ -62,10 +61,10 @@ fn write_solution(
     };
     let need = report_width(nodes, branches, rows, v, i, &losses, figures);
     if out.len() < need {
-        return Study::NoReport(Refusal::BufferShort(need));
+        return Err(Refusal::BufferShort(need));
     }
-    let len = put_report(out, nodes, branches, rows, v, i, &losses, figures);
-    Study::Written(len, sweeps)
+    let length = put_report(out, nodes, branches, rows, v, i, &losses, figures);
+    Ok(Written { length, sweeps })
 }
 
 // The study of a feeder in memory. The rounds move the taps of a copy of its branches, and the report is of that copy.
@@ -77,7 +76,7 @@ pub fn study_network(
     order: &Places,
     rank: &Places,
     out: &mut [u8],
-) -> Study
+) -> Result<Written, Refusal>
     requires { Known (network_of settings nodes.now branches.old loads.now order.now rank.now) }
     ensures { (f : Feeder) → Held f (network_of settings nodes.now branches.old loads.now order.now rank.now) → StudyAs (fitted_from f (length out.old)) out.old result out.new }
 {
@@ -85,24 +84,17 @@ pub fn study_network(
     let mut i = [[0i64; 6]; 201];
     let run = regulate(
         settings, nodes, branches, loads, order, rank, &mut v, &mut i,
-    );
-    let solving = run.solving;
-    match solving {
-        Solving::Unsolved(x) => Study::NoReport(x),
-        Solving::Solved(k) => {
-            let drawn = run.drawn;
-            write_solution(
-                settings, nodes, branches, loads, order, rank, k, &v, &i, drawn, out,
-            )
-        }
-    }
+    )?;
+    write_solution(
+        settings, nodes, branches, loads, order, rank, run.sweeps, &v, &i, run.drawn, out,
+    )
 }
 
 // The study of a feeder file: its report is written from the start of `out`, and after a refusal `out` holds what it held.
-pub fn study_feeder(feeder: &[u8], out: &mut [u8]) -> Study
+pub fn study_feeder(feeder: &[u8], out: &mut [u8]) -> Result<Written, Refusal>
     ensures answer { result ≡ study_of feeder.now (length out.old) }
     ensures buffer { out.new ≡ buffer_of feeder.now out.old }
-    ensures sweeps { (len k : ℕ) → result ≡ Study.Written len k → StudyGood feeder.now (length out.old) len k }
+    ensures sweeps { (w : Written) → result ≡ Ok w → StudyGood feeder.now (length out.old) w.length w.sweeps }
     ensures told { StudyTold (fitted feeder.now (length out.old)) result }
     ensures first { StudyPoints feeder.now result }
 {
@@ -111,18 +103,13 @@ pub fn study_feeder(feeder: &[u8], out: &mut [u8]) -> Study
     let mut loads = [[0i64; 6]; 300];
     let mut order = [0usize; 201];
     let mut rank = [0usize; 201];
-    let read = read_into(
+    let settings = read_into(
         feeder,
         &mut nodes,
         &mut branches,
         &mut loads,
         &mut order,
         &mut rank,
-    );
-    let answer = read.answer;
-    if let ReadAnswer::Refused(x) = answer {
-        return Study::NoReport(x);
-    }
-    let settings = read.settings;
+    )?;
     study_network(settings, &nodes, &mut branches, &loads, &order, &rank, out)
 }

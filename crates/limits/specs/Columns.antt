@@ -8,7 +8,7 @@ use Rattle.std.proofs.Math.Dec.{leb-suc-zero, leb-zero}
 use Rattle.feeder.specs.Feeder.{between, branch_in, column_of, centivolts, impedance, in_limit, no_phases, ratio, zero_if_due, zeros}
 use Rattle.feeder.specs.declared.Column.TheVariants.{Unused}
 use Rattle.feeder.specs.declared.Kind.TheVariants.{L, R, Y}
-use Rattle.feeder.specs.declared.Phases.{Phases}
+use Rattle.feeder.specs.Phased.{Phases}
 use Rattle.integers.specs.ListLaws.{get_or-tab, length-tab}
 use Rattle.integers.specs.Lists.{all, count, tab}
 use Rattle.integers.specs.Pairs.{inside}
@@ -71,16 +71,16 @@ all_split f k (suc m) n =
     let z : suc m + n ≡ suc (m + n) = omega arith in
     rw (e, z) (ap (λ (b : Bool). f k && b) (all_split f (k + 1) m n) ∙ and_assoc (f k) _ _)
 
-pub line-in : (p : List ℤ)
+pub line_in : (p : List ℤ)
     → branch_in L p ≡ (all_between (neg_ℤ (pos 100000000)) (pos 100000000) p 1 6 && all_between (neg_ℤ (pos 100000000)) (pos 100000000) p 7 12)
 unfolding branch_in all_between column_of all count tab
-line-in p = all_split (λ j. between (neg_ℤ (pos 100000000)) (pos 100000000) (nth p j)) 1 6 6
+line_in p = all_split (λ j. between (neg_ℤ (pos 100000000)) (pos 100000000) (nth p j)) 1 6 6
 
 -- taps and level, and, where that is not 0, what the relay needs
-pub regulator-in : (p : List ℤ) → branch_in R p ≡ (all_between (neg_ℤ (pos 16)) (pos 16) p 1 3 && (all_between (pos 0) (pos 20000) p 4 4
+pub regulator_in : (p : List ℤ) → branch_in R p ≡ (all_between (neg_ℤ (pos 16)) (pos 16) p 1 3 && (all_between (pos 0) (pos 20000) p 4 4
     && cond (all_zero p 4 4) true (all_between (pos 0) (pos 20000) p 5 5 && (all_between (pos 1) (pos 10000) p 6 7 && all_between (neg_ℤ (pos 100000000)) (pos 100000000) p 8 9))))
 unfolding branch_in all_between all_zero column_of all count tab
-regulator-in p = go (inside 0 (nth p 4)) (between (neg_ℤ (pos 16)) (pos 16) (nth p 1)) (between (neg_ℤ (pos 16)) (pos 16) (nth p 2)) (between (neg_ℤ (pos 16)) (pos 16) (nth p 3)) (between (pos 0) (pos 20000) (nth p 4))
+regulator_in p = go (inside 0 (nth p 4)) (between (neg_ℤ (pos 16)) (pos 16) (nth p 1)) (between (neg_ℤ (pos 16)) (pos 16) (nth p 2)) (between (neg_ℤ (pos 16)) (pos 16) (nth p 3)) (between (pos 0) (pos 20000) (nth p 4))
   where
     relay : Bool → ℕ → Bool
     relay c j = in_limit (get_or (cond c [] (centivolts ∷ ratio ∷ ratio ∷ impedance no_phases ∷ impedance no_phases ∷ [])) j Unused) (nth p (5 + j))
@@ -90,9 +90,9 @@ regulator-in p = go (inside 0 (nth p 4)) (between (neg_ℤ (pos 16)) (pos 16) (n
     go true x y z w = simp (and_assoc, and-true)
     go false x y z w = simp (and_assoc, and-true)
 
-pub transformer-in : (p : List ℤ) → branch_in Y p ≡ (all_between (pos 1) (pos 1000000) p 1 2 && all_between (neg_ℤ (pos 100000000)) (pos 100000000) p 3 8)
+pub transformer_in : (p : List ℤ) → branch_in Y p ≡ (all_between (pos 1) (pos 1000000) p 1 2 && all_between (neg_ℤ (pos 100000000)) (pos 100000000) p 3 8)
 unfolding branch_in all_between column_of all count tab
-transformer-in p = and-three (between (pos 1) (pos 1000000) (nth p 1)) (between (pos 1) (pos 1000000) (nth p 2)) _
+transformer_in p = and-three (between (pos 1) (pos 1000000) (nth p 1)) (between (pos 1) (pos 1000000) (nth p 2)) _
 
 -- ---- the columns that are due 0
 between-zero : (z : ℤ) → between (pos 0) (pos 0) z ≡ inside 0 z
@@ -122,11 +122,11 @@ mutual-due true true a b e = e
 mutual-due true false a b {s = s} e = ap (λ (t : Bool). a && (b && t)) e ∙ and-three a b s
 mutual-due false y a b {s = s} e = ap (λ (t : Bool). a && (b && t)) e ∙ and-three a b s
 
-pub line-zeros : (f : Phases) (p : List ℤ)
+pub line_zeros : (f : Phases) (p : List ℤ)
     → zeros L f p ≡ (zero_unless f.a f.a p 1 2 && (zero_unless f.a f.b p 3 4 && (zero_unless f.a f.c p 5 6
     && (zero_unless f.b f.b p 7 8 && (zero_unless f.b f.c p 9 10 && zero_unless f.c f.c p 11 12)))))
 unfolding zeros all_zero column_of all count tab
-line-zeros f p =
+line_zeros f p =
     own-due f.a (inside 0 (nth p 1)) (inside 0 (nth p 2))
     (mutual-due f.a f.b (inside 0 (nth p 3)) (inside 0 (nth p 4))
     (mutual-due f.a f.c (inside 0 (nth p 5)) (inside 0 (nth p 6))
@@ -134,10 +134,10 @@ line-zeros f p =
     (mutual-due f.b f.c (inside 0 (nth p 9)) (inside 0 (nth p 10))
     (own-due f.c (inside 0 (nth p 11)) (inside 0 (nth p 12)) refl ∙ and-true _)))))
 
-pub regulator-zeros : (f : Phases) (p : List ℤ)
+pub regulator_zeros : (f : Phases) (p : List ℤ)
     → zeros R f p ≡ (zero_unless f.a f.a p 1 1 && (zero_unless f.b f.b p 2 2 && (zero_unless f.c f.c p 3 3 && cond (all_zero p 4 4) (all_zero p 5 12) (all_zero p 10 12))))
 unfolding zeros all_zero column_of all count tab
-regulator-zeros f p =
+regulator_zeros f p =
     one-due f.a (inside 0 (nth p 1)) _
     ∙ ap (λ (b : Bool). zero_unless f.a f.a p 1 1 && b)
     (one-due f.b (inside 0 (nth p 2)) _

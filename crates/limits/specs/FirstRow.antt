@@ -1,8 +1,6 @@
 -- The first row with a fault, looked for row by row in an array that keeps the first rows of a file as numbers. Assumes nothing.
-use Rattle.std.specs.Prelude.{Bool, ◌&&◌, cond, false, not, true, List, [], ◌∷◌, map, ◌≡◌, refl, ◌+◌, ◌-◌, ◌<◌, ◌≤◌, suc, zero, ℕ, ltb, pos, ℤ, drop, get_or, length}
+use Rattle.std.specs.Prelude.{Bool, ◌&&◌, cond, false, not, true, List, [], ◌∷◌, map, ◌≡◌, refl, ◌+◌, ◌-◌, ◌<◌, ◌≤◌, suc, zero, ℕ, ltb, pos, ℤ, drop, get_or, length, Option, Some, None}
 use Rattle.std.proofs.Common.{◌∙◌, ap, sym, arith, drop_of_length-le}
-use Rattle.answers.specs.declared.Found.{Found}
-use Rattle.answers.specs.declared.Found.TheVariants.{At, Nothing}
 use Rattle.arrays.specs.ArrayLaws.{kind-back, on-back, phase-back}
 use Rattle.arrays.specs.Arrays.{branch_numbers, kind_of, load_numbers, load_rows, no_numbers, phase_of, phases_in}
 use Rattle.feeder.specs.Feeder.{between, branch_in, first_row, load_in, vn_most, zeros}
@@ -87,7 +85,7 @@ module _ {k : ℕ} (p : 0 < k) where
       sym (ap powers_in (ap (λ (m : List (List ℤ)). get_or m (k - 1) []) e ∙ load-row ls k p h q) ∙ load-in 0 (get_or ls (k - 1) no_load_row))
 
 -- ---- r is what `first_row` gives for the file's rows, `count` of which there are, and of which an array holds the first ones
-abbrev pub FirstOf : {X : Type 0} → (ℕ → X → Bool) → ℕ → (List X → Type 0) → ℕ → Found → Type 0
+abbrev pub FirstOf : {X : Type 0} → (ℕ → X → Bool) → ℕ → (List X → Type 0) → ℕ → Option ℕ → Type 0
 FirstOf {X} bad before held count r = (l : List X) → held l → count ≡ length l → r ≡ first_row bad before 1 l
 
 -- the rows before row k have no fault: the first that has one is the first from there on
@@ -108,11 +106,11 @@ drop-row d (x ∷ l) (suc (suc k)) p h =
     rw (e, f) (rw (m, g) at (drop-row d l (suc k) (omega arith) (omega arith)))
 
 first_step : {X : Type 0} (bad : ℕ → X → Bool) (before : ℕ) (d : X) (l : List X) (k : ℕ) → 0 < k → k ≤ length l
-    → first_row bad before k (drop (k - 1) l) ≡ cond (bad k (get_or l (k - 1) d)) (At (before + k)) (first_row bad before (k + 1) (drop ((k + 1) - 1) l))
+    → first_row bad before k (drop (k - 1) l) ≡ cond (bad k (get_or l (k - 1) d)) (Some (before + k)) (first_row bad before (k + 1) (drop ((k + 1) - 1) l))
 unfolding first_row
 first_step bad before d l k p h = ap (λ m. first_row bad before k m) (drop-row d l k p h)
 
-first-end : {X : Type 0} (bad : ℕ → X → Bool) (before : ℕ) (l : List X) (k : ℕ) → length l < k → first_row bad before k (drop (k - 1) l) ≡ Nothing
+first-end : {X : Type 0} (bad : ℕ → X → Bool) (before : ℕ) (l : List X) (k : ℕ) → length l < k → first_row bad before k (drop (k - 1) l) ≡ None
 unfolding first_row
 first-end bad before l k h = ap (λ m. first_row bad before k m) (drop_of_length-le l {i = k - 1} (omega arith))
 
@@ -123,14 +121,14 @@ pass-none bad before held count = record { from = omega arith; rest = λ l e m. 
 module _ {X : Type 0} {bad : ℕ → X → Bool} {before : ℕ} {held : List X → Type 0} {count k : ℕ} (p : Passed bad before held count k) where
   -- the rest, taken apart at row k
   turn : (d : X) → k ≤ count → (l : List X) → held l → count ≡ length l
-      → first_row bad before 1 l ≡ cond (bad k (get_or l (k - 1) d)) (At (before + k)) (first_row bad before (k + 1) (drop ((k + 1) - 1) l))
+      → first_row bad before 1 l ≡ cond (bad k (get_or l (k - 1) d)) (Some (before + k)) (first_row bad before (k + 1) (drop ((k + 1) - 1) l))
   turn d h l e m = p.rest l e m ∙ first_step bad before d l k p.from (omega arith)
 
   pub pass-row : (d : X) → k ≤ count → ((l : List X) → held l → k ≤ length l → bad k (get_or l (k - 1) d) ≡ false) → Passed bad before held count (k + 1)
   pass-row d h clean = record { from = omega arith; rest = λ l e m. turn d h l e m ∙ simp (clean l e (omega arith)) }
 
-  pub found-row : (d : X) → k ≤ count → ((l : List X) → held l → k ≤ length l → bad k (get_or l (k - 1) d) ≡ true) → FirstOf bad before held count (At (before + k))
+  pub found-row : (d : X) → k ≤ count → ((l : List X) → held l → k ≤ length l → bad k (get_or l (k - 1) d) ≡ true) → FirstOf bad before held count (Some (before + k))
   found-row d h fault = λ l e m. sym (turn d h l e m ∙ simp (fault l e (omega arith)))
 
-  pub found_none : count < k → FirstOf bad before held count Nothing
+  pub found_none : count < k → FirstOf bad before held count None
   found_none h = λ l e m. sym (p.rest l e m ∙ first-end bad before l k (omega arith))

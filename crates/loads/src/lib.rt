@@ -14,12 +14,11 @@ use devices::threes;
 use feeder::{Load, LoadKind, Three, signs_of};
 use integers::{Pair, pairs, whole};
 
-// What a load row draws: a current, or none, by document 01's refusals 30 and 31.
-#[derive(Clone, Copy)]
-pub enum Drawn {
-    Taken(Pair),
-    AtZeroVoltage,
-    TooLarge,
+// Why a load row draws nothing: document 01's refusals 30 and 31.
+#[derive(Clone, Copy, PartialEq, Eq)]
+pub enum LoadError {
+    ZeroVoltage,
+    Beyond,
 }
 
 // The voltage at which the row stands: its phase's, or the first phase's minus the second's.
@@ -79,8 +78,7 @@ fn acts_as(kind: LoadKind, vn: i64, u: Pair) -> LoadKind
                 LoadKind::Power
             }
         }
-        LoadKind::Current => LoadKind::Current,
-        LoadKind::Impedance => LoadKind::Impedance,
+        LoadKind::Current | LoadKind::Impedance => kind,
     }
 }
 
@@ -89,8 +87,7 @@ fn lacks_voltage(kind: LoadKind, u: Pair) -> bool
     ensures { result ≡ lacks_voltage kind u }
 {
     match kind {
-        LoadKind::Power => pairs::within(u, 0),
-        LoadKind::Current => pairs::within(u, 0),
+        LoadKind::Power | LoadKind::Current => pairs::within(u, 0),
         LoadKind::Impedance => false,
     }
 }
@@ -108,7 +105,7 @@ fn current_at(l: Load, kind: LoadKind, u: Pair) -> Pair
     pairs::round(n, w)
 }
 
-fn drawn_by(l: Load, u: Pair) -> Drawn
+fn drawn_by(l: Load, u: Pair) -> Result<Pair, LoadError>
     requires load_ok { LoadOk l }
     requires within { Within 4000000 u }
     ensures { result ≡ drawn_by l u }
@@ -116,18 +113,18 @@ fn drawn_by(l: Load, u: Pair) -> Drawn
     let own = l.kind;
     let kind = acts_as(own, l.vn, u);
     if lacks_voltage(kind, u) {
-        return Drawn::AtZeroVoltage;
+        return Err(LoadError::ZeroVoltage);
     }
     let i = current_at(l, kind, u);
     if pairs::within(i, 2000000) {
-        Drawn::Taken(i)
+        Ok(i)
     } else {
-        Drawn::TooLarge
+        Err(LoadError::Beyond)
     }
 }
 
 // What the row draws at the voltages v of its node.
-pub fn load_current(l: Load, v: Three) -> Drawn
+pub fn load_current(l: Load, v: Three) -> Result<Pair, LoadError>
     requires load_ok { LoadOk l }
     requires within3 { Within3 2000000 v }
     ensures { result ≡ drawn_by l (mix (phase_signs l.phase) v) }

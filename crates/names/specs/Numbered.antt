@@ -7,7 +7,7 @@ use Rattle.feeder.specs.declared.Branch.{Branch}
 use Rattle.feeder.specs.declared.Device.{Device}
 use Rattle.feeder.specs.declared.Device.TheVariants.{Line, Regulator, Transformer}
 use Rattle.feeder.specs.declared.Load.{Load}
-use Rattle.feeder.specs.declared.Phases.{Phases}
+use Rattle.feeder.specs.Phased.{Phases}
 
 -- the names of the nodes, the branch that feeds each node, the loads
 abbrev pub nodes_in : Rows → List ℕ

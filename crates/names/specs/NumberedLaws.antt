@@ -1,5 +1,5 @@
 -- A file's rows, and the arrays that hold them by node numbers. Assumes nothing.
-use Rattle.std.specs.Prelude.{◌&&◌, false, true, List, [], ◌∷◌, ◌≡◌, ℤ, drop, get_or, length, take}
+use Rattle.std.specs.Prelude.{Bool, ◌&&◌, cond, false, true, List, [], ◌∷◌, ◌≡◌, ℤ, drop, get_or, length, take, None}
 use Rattle.std.proofs.Math.Bool.{not}
 use Rattle.std.proofs.Common.{◌∙◌, sym, add-one}
 use Rattle.std.proofs.Math.Path.{ap, refl}
@@ -10,7 +10,6 @@ use Rattle.std.proofs.Math.Dec.{ltb}
 use Rattle.std.proofs.Math.ListN.{get_or-eq_default}
 use Rattle.std.proofs.lemmas.List.{length-map}
 use borrow.Author.Tests.{le-ltb, lt-ltb, ltb-false, ne_eqb}
-use Rattle.answers.specs.declared.Found.TheVariants.{Nothing}
 use Rattle.arrays.specs.ArrayLaws.{branch-at as row_at, branches-numbered, loads-numbered}
 use Rattle.arrays.specs.Arrays.{branch_of as row_of, branches_of, kind_of, loads_of, numbered_branches, numbered_loads, to_names}
 use Rattle.feeder.specs.Feeder.{all_of, branch_at, branch_of, device_of, feeder_of, first_row, known, load_of, no_branch, no_phases, nodes_of, or_else, parent, phase_absent, phases_of, place_of, second_to, stands_on, three_phase, unknown_from}
@@ -22,7 +21,7 @@ use Rattle.feeder.specs.declared.Branch.{Branch}
 use Rattle.feeder.specs.declared.Kind.{Kind}
 use Rattle.feeder.specs.declared.Kind.TheVariants.{D, L, R, Y}
 use Rattle.feeder.specs.declared.Load.{Load}
-use Rattle.feeder.specs.declared.Phases.{Phases}
+use Rattle.feeder.specs.Phased.{Phases}
 use Rattle.feeder.specs.declared.Terminals.{Terminals}
 use Rattle.feeder.specs.declared.Terminals.TheVariants.{AB, BC, CA, OnA, OnB, OnC}
 use Rattle.integers.specs.Lists.{all}
@@ -30,6 +29,15 @@ use Rattle.integers.specs.Pairs.{inside}
 use Rattle.text.specs.Lines.{nth}
 use Rattle.names.specs.Numbered.{branch_absent, branches_in, from_unknown, load_absent, loads_in, nodes_in, phases_in, three_phase_of, to_second}
 use Rattle.names.specs.Rest.{first-image, rest}
+
+-- all phases of f are among those of g, one phase after the other
+pub phases_among : (f g : Phases) → all_of f g ≡ (cond f.a g.a true && (cond f.b g.b true && cond f.c g.c true))
+unfolding all
+phases_among f g = go (cond f.a g.a true) (cond f.b g.b true) (cond f.c g.c true)
+  where
+    go : (a b c : Bool) → (a && (b && (c && true))) ≡ (a && (b && c))
+    go a b true = refl
+    go a b false = refl
 
 -- a transformer is known by its kind and by its device
 threes : (k : Kind) (p : List ℤ) (f : Phases) → three_phase_of (device_of k p) f ≡ three_phase k f
@@ -127,7 +135,7 @@ module _ (r : Rows) (count : ℕ) (size : count ≡ length r.branches) where
     unknown-from branches e = rw (e, take-branches) unknown-rows
 
     -- where 20 has passed, every from-number is a node's
-    pub from-known : unknown_from r ≡ Nothing → (k : ℕ) → (get_or (branches_in r) k no_branch).from ≤ count
+    pub from-known : unknown_from r ≡ None → (k : ℕ) → (get_or (branches_in r) k no_branch).from ≤ count
     unfolding from_unknown branch_at
     from-known e k = rw (branch-at k) (go k)
       where

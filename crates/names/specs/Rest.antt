@@ -1,12 +1,11 @@
 -- A list as a loop passes over it: what is left from a place on, the first line with a fault, and an array that is changed row by row. Assumes nothing.
-use Rattle.std.specs.Prelude.{Bool, false, true, ◌≡◌, drop, get_or, length, set, take}
+use Rattle.std.specs.Prelude.{Bool, false, true, ◌≡◌, drop, get_or, length, set, take, Some, None}
 use mathlib.Core.List.{List, [], ◌++◌, ◌∷◌, map}
 use Rattle.std.proofs.Math.Path.{ap, refl}
 use Prim.Native.Nat.{◌+◌, ◌<◌, ◌≤◌, suc, zero, ℕ}
 use Rattle.std.proofs.Math.Decide.{ℕ_discrete}
 use Rattle.std.proofs.Common.{add-one, arith, drop_of_length-le, drop-cons, get_or-take, length-take-le}
 use borrow.Author.Tests.{eq-eqb, ne_eqb}
-use Rattle.answers.specs.declared.Found.TheVariants.{At, Nothing}
 use Rattle.feeder.specs.Feeder.{first_row, place_of}
 use Rattle.feeder.specs.Network.{kept}
 
@@ -24,7 +23,7 @@ rest_end l n i q h = drop_of_length-le (take n l) {i = i} (rw (length-take-le n 
 
 -- ---- the first line with a fault
 module _ {X : Type 0} (bad : ℕ → X → Bool) (before k : ℕ) (d : X) (l : List X) (n i : ℕ) (q : n ≤ length l) where
-  pub first-here : i < n → bad k (get_or l i d) ≡ true → first_row bad before k (rest i n l) ≡ At (before + k)
+  pub first-here : i < n → bad k (get_or l i d) ≡ true → first_row bad before k (rest i n l) ≡ Some (before + k)
   unfolding first_row
   first-here p e = rw (rest-step d l n i p q, e)
 
@@ -32,7 +31,7 @@ module _ {X : Type 0} (bad : ℕ → X → Bool) (before k : ℕ) (d : X) (l : L
   unfolding first_row
   first_next p e = rw (rest-step d l n i p q, e)
 
-  pub first-end : n ≤ i → first_row bad before k (rest i n l) ≡ Nothing
+  pub first-end : n ≤ i → first_row bad before k (rest i n l) ≡ None
   unfolding first_row
   first-end p = rw (rest_end l n i q p)
 

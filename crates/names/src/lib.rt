@@ -20,14 +20,12 @@ fn place_of(name: u64, nodes: &[u64], n: usize) -> usize
     requires { n ≤ length nodes.now }
     ensures { result ≡ place_of name (take n nodes.now) }
 {
-    let mut i = 0;
-    while i < n {
+    for i in 0..n {
         if name == nodes[i] {
             return i;
         }
-        i += 1;
     }
-    i
+    n
 }
 
 // The slot of a name. 4093 is a prime above 255, so that names which differ in one letter have different slots.
@@ -45,11 +43,8 @@ pub fn slots_of(nodes: &Names, n: usize) -> [u8; 4093]
     ensures { Slotted nodes.now result }
 {
     let mut slots = [0u8; 4093];
-    let mut i = n;
-    while 0 < i {
-        i -= 1;
-        let slot = slot_of(nodes[i]);
-        slots[slot] = i as u8;
+    for i in (0..n).rev() {
+        slots[slot_of(nodes[i])] = i as u8;
     }
     slots
 }
@@ -66,8 +61,7 @@ fn find(name: u64, nodes: &[u64], n: usize, slots: &[u8; 4093]) -> usize
     requires slotted { Slotted nodes.now slots.now }
     ensures { result ≡ place_of name (take n nodes.now) }
 {
-    let slot = slot_of(name);
-    let guess = wide(slots[slot]);
+    let guess = wide(slots[slot_of(name)]);
     if guess < n {
         let there = nodes[guess];
         if name == there {
@@ -100,12 +94,8 @@ pub fn number_branches(
     requires slotted { Slotted nodes.now slots.now }
     ensures { (bs : List BranchRow) → froms.now ≡ from_names bs → count ≡ length bs → branches.old ≡ branch_rows bs → branches.new ≡ numbered_branches (take (count + 1) nodes.now) bs }
 {
-    let mut i = 0;
-    while i < count {
-        let k = i + 1;
-        let from = number_of(froms[k], nodes, count + 1, slots);
-        branches[k][0] = from;
-        i = k;
+    for k in 1..count + 1 {
+        branches[k][0] = number_of(froms[k], nodes, count + 1, slots);
     }
 }
 
@@ -123,10 +113,7 @@ pub fn number_loads(
     requires slotted { Slotted nodes.now slots.now }
     ensures { (ls : List LoadRow) → names.now ≡ load_names ls → total ≡ length ls → loads.old ≡ load_rows ls → loads.new ≡ numbered_loads (take n nodes.now) ls }
 {
-    let mut i = 0;
-    while i < total {
-        let node = number_of(names[i], nodes, n, slots);
-        loads[i][0] = node;
-        i += 1;
+    for i in 0..total {
+        loads[i][0] = number_of(names[i], nodes, n, slots);
     }
 }

@@ -1,6 +1,6 @@
 -- The pair law holds: the report that the study writes meets each test of the check. Assumes nothing.
 use Rattle.std.proofs.Math.Bool.{Bool, cond, false, not, true}
-use Rattle.std.specs.Prelude.{◌&&◌, List, ◌≡◌, ◌-ℤ◌, get_or}
+use Rattle.std.specs.Prelude.{◌&&◌, List, ◌≡◌, ◌-ℤ◌, get_or, None, Ok}
 use Rattle.std.proofs.Common.{◌∙◌, subst, sym}
 use Rattle.std.proofs.Math.Path.{ap, refl}
 use Prim.Native.Nat.{◌*◌, ◌+◌, ◌-◌, ◌<◌, suc, zero, ℕ}
@@ -10,8 +10,7 @@ use Rattle.std.proofs.Math.IntN.{+ℤ_invr}
 use Rattle.std.proofs.Math.ListN.{length}
 use borrow.Author.Tests.{eq-eqb}
 use Rattle.answers.specs.AnswerLaws.{bound, same_good}
-use Rattle.answers.specs.Answers.{Outcome, ◌>>=◌, good}
-use Rattle.answers.specs.declared.Found.TheVariants.{Nothing}
+use Rattle.answers.specs.Answers.{Outcome, ◌>>=◌, done}
 use Rattle.equations.specs.Equations.{at, currents, far_voltage, voltages, zero3}
 use Rattle.equations.specs.Meets.{voltages-meet, voltages-source}
 use Rattle.equations.specs.ThreeLaws.{Close3, at-masked}
@@ -24,8 +23,7 @@ use Rattle.feeder.specs.RowLaws.{none_found, none-nodes, none_or, true-each}
 use Rattle.feeder.proofs.TapLaws.{all-chosen, sound-taps}
 use Rattle.feeder.specs.declared.Phase.{Phase}
 use Rattle.feeder.specs.declared.Phase.TheVariants.{A, B, C}
-use Rattle.feeder.specs.declared.Taps.{Taps}
-use Rattle.feeder.specs.declared.Three.{Three}
+use Rattle.feeder.specs.Phased.{Taps, Three}
 use Rattle.integers.specs.Bools.{clash, joined}
 use Rattle.integers.specs.ListLaws.{all-at, all-count, count-true, get_or_map, length-tab}
 use Rattle.integers.specs.PairLaws.{Close}
@@ -39,10 +37,9 @@ use Rattle.pair.specs.SolutionSizes.{ended-formed, ended-writable}
 use Rattle.report.specs.Report.{Reported, no_row, report_text, reported_currents, reported_voltages, tap_row, with_reported}
 use Rattle.report.proofs.RoundTrip.{Writable, branch-count, branch-row, node-row, report-read, report-short, report_rows, reported-current, reported-feeder, reported-loss, reported-totals, reported-voltages, row_of_branch, row_of_node}
 use Rattle.compare.specs.Differences.{name_at_node, name_differs, stays_at, tap_differs}
-use Rattle.verdicts.specs.Check.{check_of}
+use Rattle.verdicts.specs.Check.{checked}
 use Rattle.verdicts.proofs.Passed.{Passed, found-passes}
 use Rattle.verdicts.proofs.Tests.{TotalsSame, meets52, meets53, meets54, meets55}
-use Rattle.verdicts.specs.declared.Verdict.TheVariants.{Pass}
 use Rattle.rounds.specs.Rounds.{Regulated, regulated}
 use Rattle.rounds.proofs.RoundsLaws.{Ended, regulated-end}
 use Rattle.text.specs.Lines.{Row, word_of}
@@ -71,7 +68,7 @@ module _ (f : Feeder) (x : Solution) (form : Formed f) (w : Solved f x) where
   currents-back = ap (currents f) voltages-back ∙ sym w.currents-are
 
   -- 51: each row has its nodes' names
-  names_same : name_differs f r ≡ Nothing
+  names_same : name_differs f r ≡ None
   unfolding name_differs row_of_node row_of_branch report_rows tap_row
   names_same = none_or
       (none-nodes (λ k. not (eqb (word_of (get_or r.nodes k no_row) 0) (name_at_node f k))) 1 (row_count f)
@@ -164,7 +161,7 @@ module _ (e : Feeder) (y : Regulated) (h : Ended e y) (form : Formed y.feeder) (
       go true n = rw (h.fixed j q n) (same-taps (taps_on (branch_at e (suc j)).device))
       go false n = at-rest j q
 
-  pub taps-stay : tap_differs e written ≡ Nothing
+  pub taps-stay : tap_differs e written ≡ None
   unfolding tap_differs regulators
   taps-stay =
       let all_stay : All (λ k. stays_at e written k ≡ true) (regulators e) = all-chosen _ (λ k. regulates (branch_at e k).device) (rows_of e) (all-count _ 1 (row_count e) (λ j q r. let z : 1 + j ≡ suc j = omega arith in rw z (stays j q))) in
@@ -174,7 +171,7 @@ module _ (e : Feeder) (y : Regulated) (h : Ended e y) (form : Formed y.feeder) (
 pub pair-law : PairLaw
 unfolding report
 pair-law s t e =
-    let whole : Regulated → Outcome Report = λ y. good (record { text = report_text y.feeder y.solution.voltages y.solution.currents y.solution.sweeps; sweeps = y.solution.sweeps }) in
+    let whole : Regulated → Outcome Report = λ y. Ok (record { text = report_text y.feeder y.solution.voltages y.solution.currents y.solution.sweeps; sweeps = y.solution.sweeps }) in
     let a = bound (reading s) (λ f. regulated f >>= whole) t e in
     let f : Feeder = a.value in
     let b = bound (regulated f) whole t a.rest in
@@ -183,7 +180,7 @@ pair-law s t e =
     let x : Solution = y.solution in
     let h : Ended f y = regulated-end f y (sound-taps s f (sound s f a.came)) b.came in
     let k : Writable g x.voltages x.currents x.sweeps = ended-writable s f y a.came h in
-    subst (λ (t : Report). check_of s t.text ≡ Pass) (same_good _ t b.rest)
+    subst (λ (t : Report). checked s t.text ≡ Ok done) (same_good _ t b.rest)
     (found-passes s (report_text g x.voltages x.currents x.sweeps) (record {
       t9 = report-short g x.voltages x.currents x.sweeps k;
       feeder = f;

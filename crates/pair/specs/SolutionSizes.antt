@@ -1,10 +1,9 @@
 -- How large the numbers of a solution are: its report can be written and read back. Assumes nothing.
-use Rattle.std.specs.Prelude.{Bool, false, List, ◌≡◌, refl, eqb, get_or, length}
+use Rattle.std.specs.Prelude.{Bool, false, List, ◌≡◌, refl, eqb, get_or, length, Ok}
 use Rattle.std.proofs.Math.Bool.{cond, true}
 use Rattle.std.proofs.Common.{subst, sym}
 use Prim.Native.Nat.{◌+◌, ◌<◌, ◌≤◌, suc, zero, ℕ}
 use native.Mathlib.Omega.{arith}
-use Rattle.answers.specs.Answers.{good}
 use Rattle.equations.specs.Equations.{beyond, beyond3, current_beyond, drawn_power, each, load_beyond, load_current, loads_at, loss_of, lost_power, near_current, sign_at, source_power, voltage_beyond, voltage_on, zero3}
 use Rattle.equations.specs.Fit.{Fit, fit, retapped-fit}
 use Rattle.equations.specs.Limits.{drawn-within, loss-within, source-within}
@@ -16,7 +15,7 @@ use Rattle.feeder.proofs.FeederLaws.{sound}
 use Rattle.feeder.proofs.ProperNames.{node-proper}
 use Rattle.feeder.proofs.RowFacts.{Formed, formed}
 use Rattle.feeder.proofs.TapLaws.{phases-same, retapped-formed}
-use Rattle.feeder.specs.declared.Three.{Three}
+use Rattle.feeder.specs.Phased.{Three}
 use Rattle.integers.specs.Bools.{clash}
 use Rattle.integers.specs.ListLaws.{all-count, all_map, all-map2, any_false, length-tab, tab-all}
 use Rattle.integers.specs.Lists.{All, any, count}
@@ -116,7 +115,7 @@ module _ (f : Feeder) (x : Solution) (limits : Fit f) (form : Formed f) (names :
   }
 
 -- of a feeder that is read: the one with the taps of the last round keeps the form and the limits
-module _ (s : List ℕ) (f : Feeder) (y : Regulated) (e : reading s ≡ good f) (h : Ended f y) where
+module _ (s : List ℕ) (f : Feeder) (y : Regulated) (e : reading s ≡ Ok f) (h : Ended f y) where
   pub ended-formed : Formed y.feeder
   ended-formed = retapped-formed f y.feeder h.retapped h.taps (formed s f (sound s f e))
 

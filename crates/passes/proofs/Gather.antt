@@ -15,7 +15,7 @@ use Rattle.equations.specs.ThreeLaws.{sum3-cong, sum3-zero}
 use Rattle.equations.specs.Upward.{kirchhoff}
 use Rattle.feeder.specs.Feeder.{Feeder, branch_at, no_branch, parent, row_count}
 use Rattle.feeder.specs.declared.Branch.{Branch}
-use Rattle.feeder.specs.declared.Three.{Three}
+use Rattle.feeder.specs.Phased.{Three}
 use Rattle.integers.specs.ListLaws.{all-count}
 use Rattle.integers.specs.Lists.{count, tab}
 use Rattle.passes.specs.Arrays.{branch-in, rank_most, reached-in}

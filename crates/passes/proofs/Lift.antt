@@ -10,7 +10,7 @@ use Rattle.equations.specs.Equations.{beyond3, current_beyond, near_current, plu
 use Rattle.equations.specs.Sizes.{Within3, beyond3-false, within3-le, within3-plus}
 use Rattle.feeder.specs.Feeder.{Feeder, branch_at, no_branch, row_count}
 use Rattle.feeder.specs.declared.Branch.{Branch}
-use Rattle.feeder.specs.declared.Three.{Three}
+use Rattle.feeder.specs.Phased.{Three}
 use Rattle.integers.specs.Bools.{clash, same?}
 use Rattle.integers.specs.ListLaws.{get_or-tab, length-tab}
 use Rattle.passes.specs.Arrays.{branch-in, keeps, no_row, rank_most, some-row}

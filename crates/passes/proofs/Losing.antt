@@ -9,7 +9,7 @@ use Rattle.equations.specs.Equations.{drop_of, loss_of, lost_power, power, zero3
 use Rattle.equations.specs.Sizes.{within-zero}
 use Rattle.feeder.specs.Feeder.{Feeder, no_branch, row_count, rows_of}
 use Rattle.feeder.specs.declared.Branch.{Branch}
-use Rattle.feeder.specs.declared.Three.{Three}
+use Rattle.feeder.specs.Phased.{Three}
 use Rattle.integers.specs.ListLaws.{get_or_map, get_or-tab, length-tab}
 use Rattle.integers.specs.Lists.{count, csum, tab}
 use Rattle.integers.specs.PairLaws.{Within, within-add, within-le}

@@ -14,7 +14,7 @@ use Rattle.feeder.specs.Network.{Held, kept}
 use Rattle.feeder.specs.NetworkLaws.{get_or_kept, length-kept}
 use Rattle.feeder.specs.declared.Branch.{Branch}
 use Rattle.feeder.specs.declared.Network.{Network}
-use Rattle.feeder.specs.declared.Three.{Three}
+use Rattle.feeder.specs.Phased.{Three}
 use Rattle.integers.specs.ListLaws.{all-count, get_or-tab, length-tab}
 use Rattle.integers.specs.Lists.{any, count, tab, All}
 use Rattle.passes.specs.Passes.{InArrays, Ready}

@@ -9,7 +9,7 @@ use Rattle.equations.specs.Equations.{beyond3, far_voltage, voltage_beyond, volt
 use Rattle.equations.specs.Sizes.{Within3, false-beyond3}
 use Rattle.feeder.specs.Feeder.{Feeder, no_branch, row_count}
 use Rattle.feeder.specs.declared.Branch.{Branch}
-use Rattle.feeder.specs.declared.Three.{Three}
+use Rattle.feeder.specs.Phased.{Three}
 use Rattle.integers.specs.Bools.{clash, same?}
 use Rattle.passes.specs.Arrays.{keeps, no_row, rank_most, some-row, to-source, voltage-in, voltages-length}
 use Rattle.passes.specs.Passes.{DownwardIs, InArrays, Ready}

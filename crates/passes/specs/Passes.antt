@@ -6,7 +6,7 @@ use Rattle.equations.specs.Sizes.{Within3}
 use Rattle.feeder.specs.Feeder.{Feeder, no_branch, row_count, rows_of}
 use Rattle.feeder.specs.Network.{branch_array, kept}
 use Rattle.feeder.specs.declared.Branch.{Branch}
-use Rattle.feeder.specs.declared.Three.{Three}
+use Rattle.feeder.specs.Phased.{Three}
 use Rattle.integers.specs.Lists.{tab}
 use Rattle.integers.specs.Pairs.{0c}
 use Rattle.integers.specs.PairLaws.{Within}

@@ -8,7 +8,7 @@ use Rattle.feeder.specs.Feeder.{Feeder, branch_at, parent, phase_signs, row_coun
 use Rattle.feeder.specs.Network.{kept}
 use Rattle.feeder.specs.NetworkLaws.{get_or_kept}
 use Rattle.feeder.specs.declared.Load.{Load}
-use Rattle.feeder.specs.declared.Three.{Three}
+use Rattle.feeder.specs.Phased.{Three}
 use Rattle.integers.specs.ListLaws.{all-count, length-tab}
 use Rattle.integers.specs.Lists.{any, csum, tab}
 use Rattle.passes.specs.Arrays.{voltages-length}

@@ -5,6 +5,7 @@
 ghost use Rattle.std.specs.Prelude.{false, true, ◌≡◌, ℕ, ◌+◌, ◌<◌, ◌≤◌, get_or, length, replicate};
 ghost use Rattle.arrays.specs.Arrays.{Spare, branches_of, no_numbers, pairs_of, threes_of};
 ghost use Rattle.feeder.specs.Feeder.{Feeder, no_branch};
+ghost use Rattle.feeder.specs.Phased.{Three};
 ghost use Rattle.equations.specs.Equations.{zero3};
 ghost use Rattle.equations.specs.Limits.{DeviceOk};
 ghost use Rattle.equations.specs.Sizes.{Within3};
@@ -36,8 +37,7 @@ pub fn downward_pass(
     ensures spare { Spare rows (threes_of v.new) }
 {
     arrays::put_three(v, 0, source);
-    let mut next = 1;
-    while next <= rows {
+    for next in 1..rows + 1 {
         let m = order[next];
         let b = arrays::branch_at(branches, m);
         let from = b.from;
@@ -48,7 +48,6 @@ pub fn downward_pass(
             return false;
         }
         arrays::put_three(v, m, y);
-        next += 1;
     }
     true
 }
@@ -70,9 +69,8 @@ pub fn upward_pass(
     ensures size { Sized 1000000000 (threes_of at.new) }
     ensures rows { result ≡ true → (k : ℕ) → 0 < k → k < rows + 1 → Within3 2000000 (get_or (threes_of at.new) k zero3) }
 {
-    let mut left = rows;
-    while 0 < left {
-        let m = order[left];
+    for next in (1..rows + 1).rev() {
+        let m = order[next];
         let i = arrays::three_at(at, m);
         if threes::beyond(i) {
             return false;
@@ -86,7 +84,6 @@ pub fn upward_pass(
         let t = arrays::three_at(at, from);
         let s = threes::plus(t, j);
         arrays::put_three(at, from, s);
-        left -= 1;
     }
     true
 }
@@ -102,15 +99,13 @@ pub fn loss_pass(branches: &Branches, rows: usize, i: &Threes, losses: &mut Pair
     ensures size { SmallLosses (pairs_of losses.new) result }
 {
     let mut sum = Pair { re: 0, im: 0 };
-    let mut row = rows;
-    while 0 < row {
+    for row in (1..rows + 1).rev() {
         let b = arrays::branch_at(branches, row);
         let d = b.device;
         let current = arrays::three_at(i, row);
         let e = devices::loss(d, current);
         arrays::put_pair(losses, row, e);
         sum = pairs::add(e, sum);
-        row -= 1;
     }
     sum
 }

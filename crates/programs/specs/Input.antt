@@ -1,8 +1,8 @@
 -- What is handed over of an input that was read. Assumes nothing.
-use Rattle.std.specs.Prelude.{false, ◌≡◌, ◌≤◌}
-use Rattle.programs.specs.declared.Input.{Input}
+use Rattle.std.specs.Prelude.{ℕ, ◌<◌, ◌≤◌, List, Option, length}
+use Rattle.std.specs.Io.KnownBytes.{IsAtEnd}
 
--- the whole input, or more than 65,536 bytes of it: with 65,536 or fewer the reading did not stop for want of room
-pub record ReadWhole (r : Input) : Type 0 where
-  pub fits : r.size ≤ 65537
-  pub whole : r.size ≤ 65536 → r.full ≡ false
+-- n bytes of the room, of which `left` is left to the reader: with room left the reading did not stop for want of it, but at the input's end
+pub record ReadWhole (n : ℕ) (room : List ℕ) (left : Option (List ℕ)) : Type 0 where
+  pub fits : n ≤ length room
+  pub whole : n < length room → IsAtEnd left

@@ -2,7 +2,9 @@
 // error.
 #![tactic(auto)]
 
-ghost use Rattle.std.specs.Prelude.{◌≡◌, ◌+◌, ◌≤◌, length};
+ghost use Rattle.std.specs.Prelude.{◌≡◌, length, IfOk, IfSome};
+ghost use Rattle.std.specs.Io.{ReadsAtMost};
+ghost use Rattle.std.specs.Result.{result_ok};
 ghost use Rattle.io.specs.Counts.{IsPrefixLen};
 ghost use Rattle.programs.specs.Input.{ReadWhole};
 
@@ -13,119 +15,55 @@ use std::fs::Files;
 use std::io::{Error, ErrorKind, Read};
 use std::{fs, io, str};
 
-// What was read: how many bytes stand at the start of the room, and why no more was read: the room is full, or a read failed; else the input ended. A room
-// has one byte more than 65,536, which is enough for a longer file to meet refusal 9.
-#[derive(Clone, Copy)]
-pub struct Input {
-    pub size: usize,
-    pub full: bool,
-    pub failed: bool,
-}
-
-// What one call of `read` did: how many bytes it moved, and whether it failed.
-#[derive(Clone, Copy)]
-struct Step {
-    moved: usize,
-    failed: bool,
-}
-
 // Names on standard error what failed, and why. Where that cannot be written, nothing is left to tell it to.
 fn tell(rt: &impl Eprint, what: &str, why: Error) {
     let _ = eprintln!(rt; "{what}: {why}");
 }
 
-// One more read, to the place behind the bytes that are there. A failure is named as that of `what`.
-fn read_behind<R: Read>(
-    rt: &impl Eprint,
-    what: &str,
-    reader: &mut R,
-    file: &mut [u8],
-    size: usize,
-) -> Step
-    requires { size ≤ length file.old }
-    ensures { size + result.moved ≤ length file.old }
+// How many bytes were read. A failure is named as that of `what`.
+pub fn told(rt: &impl Eprint, what: &str, read: io::Result<usize>) -> Option<usize>
+    ensures { result ≡ result_ok read }
 {
-    match reader.read(&mut file[size..]) {
-        Ok(moved) => Step {
-            moved,
-            failed: false,
-        },
-        Err(why) => {
-            tell(rt, what, why);
-            Step {
-                moved: 0,
-                failed: true,
-            }
-        }
-    }
+    read.map_err(|why| tell(rt, what, why)).ok()
 }
 
-// What a reader has, to its end: the whole of it, or more than 65,536 bytes. A failure is named as that of `what`.
-fn read_whole<R: Read>(rt: &impl Eprint, what: &str, reader: &mut R, file: &mut [u8]) -> Input
-    requires { length file.old ≡ 65537 }
-    ensures whole { ReadWhole result }
-    ensures part { IsPrefixLen result.size file.new }
+// What a reader has, to its end: the whole of it, or as much as the room holds.
+pub fn read_whole<R: Read>(reader: &mut R, room: &mut [u8]) -> io::Result<usize>
+    ensures part { ReadsAtMost result room.new }
+    ensures whole { IfOk result (λ n. ReadWhole n room.new (R.remaining reader.new)) }
 {
-    let mut size: usize = 0;
-    while size < 65537 {
-        let step = read_behind(rt, what, reader, file, size);
-        if step.moved == 0 {
-            return Input {
-                size,
-                full: false,
-                failed: step.failed,
-            };
+    let mut size = 0;
+    // A while, since no count says how many reads it takes.
+    while size < room.len() {
+        let moved = reader.read(&mut room[size..])?;
+        if moved == 0 {
+            return Ok(size);
         }
-        size += step.moved;
+        size += moved;
     }
-    Input {
-        size,
-        full: true,
-        failed: false,
-    }
+    Ok(size)
 }
 
-// Standard input.
-pub fn read_input(rt: &(impl io::Input + Eprint), file: &mut [u8]) -> Input
+// Standard input. A room of one byte more than 65,536 is enough for a longer input to meet refusal 9.
+pub fn read_input(rt: &(impl io::Input + Eprint), file: &mut [u8]) -> Option<usize>
     requires { length file.old ≡ 65537 }
-    ensures whole { ReadWhole result }
-    ensures part { IsPrefixLen result.size file.new }
+    ensures { IfSome result (λ n. IsPrefixLen n file.new) }
 {
     let mut reader = rt.reader();
-    read_whole(rt, "standard input", &mut reader, file)
-}
-
-// What stands for a file that cannot be opened. It is named as `what`.
-fn unread(rt: &impl Eprint, what: &str, why: Error) -> Input
-    ensures whole { ReadWhole result }
-    ensures nothing { result.size ≡ 0 }
-{
-    tell(rt, what, why);
-    Input {
-        size: 0,
-        full: false,
-        failed: true,
-    }
+    told(rt, "standard input", read_whole(&mut reader, file))
 }
 
 // The file of a path.
-fn read_file(rt: &(impl Files + Eprint), path: &str, file: &mut [u8]) -> Input
-    requires { length file.old ≡ 65537 }
-    ensures whole { ReadWhole result }
-    ensures part { IsPrefixLen result.size file.new }
+fn read_file(rt: &impl Files, path: &str, file: &mut [u8]) -> io::Result<usize>
+    ensures { ReadsAtMost result file.new }
 {
-    match fs::open(rt, path) {
-        Ok(mut reader) => read_whole(rt, path, &mut reader, file),
-        Err(why) => unread(rt, path, why),
-    }
+    let mut reader = fs::open(rt, path)?;
+    read_whole(&mut reader, file)
 }
 
 // The words that bytes spell in UTF-8.
 fn words_of(bytes: &[u8]) -> &str {
-    match str::from_utf8(bytes) {
-        Ok(words) => words,
-        Err(_) => "words that are not UTF-8",
-    }
+    str::from_utf8(bytes).unwrap_or("words that are not UTF-8")
 }
 
 // The file that an argument names. Where there is no such argument, the usage is told.
@@ -134,19 +72,20 @@ pub fn read_argument(
     index: usize,
     usage: &[u8],
     file: &mut [u8],
-) -> Input
+) -> Option<usize>
     requires { length file.old ≡ 65537 }
-    ensures whole { ReadWhole result }
-    ensures part { IsPrefixLen result.size file.new }
+    ensures { IfSome result (λ n. IsPrefixLen n file.new) }
 {
     let mut path = [0u8; 4096];
     let Ok(length) = rt.arg(index, &mut path) else {
-        return unread(rt, words_of(usage), Error::from(ErrorKind::InvalidInput));
+        let why = Error::from(ErrorKind::InvalidInput);
+        return told(rt, words_of(usage), Err(why));
     };
     let Ok(name) = str::from_utf8(&path[..length]) else {
-        return unread(rt, "a file's name", Error::from(ErrorKind::InvalidFilename));
+        let why = Error::from(ErrorKind::InvalidFilename);
+        return told(rt, "a file's name", Err(why));
     };
-    read_file(rt, name, file)
+    told(rt, name, read_file(rt, name, file))
 }
 
 // Answers whether all was written.
@@ -172,9 +111,5 @@ pub fn print_refusal(rt: &impl Print, x: Refusal) -> bool {
 pub fn used(size: usize, buffer: &[u8]) -> usize
     ensures { IsPrefixLen result buffer.now }
 {
-    if size <= buffer.len() {
-        size
-    } else {
-        buffer.len()
-    }
+    size.min(buffer.len())
 }

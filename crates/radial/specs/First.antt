@@ -1,10 +1,9 @@
 -- The first line with a fault, where the fault is a test of the row's number, and refusal 22 by the order of work. Assumes nothing.
-use Rattle.std.specs.Prelude.{Bool, false, true, ◌≡◌, refl, ◌+◌, ◌<◌, ◌≤◌, suc, zero, ℕ, get_or, length}
+use Rattle.std.specs.Prelude.{Bool, false, true, ◌≡◌, refl, ◌+◌, ◌<◌, ◌≤◌, suc, zero, ℕ, get_or, length, Some, None}
 use mathlib.Core.List.{List, [], ◌∷◌}
 use Rattle.std.proofs.Common.{◌∙◌, ap, arith, eq-eqb, ne_eqb}
 use Rattle.std.proofs.Math.Decide.{ℕ_discrete}
 use Rattle.std.proofs.lemmas.List.{length-map}
-use Rattle.answers.specs.declared.Found.TheVariants.{At, Nothing}
 use Rattle.feeder.specs.Feeder.{above, branch_of, feeder_of, first_row, nodes_of, not_reached, parent}
 use Rattle.feeder.specs.Layout.{Rows}
 use Rattle.feeder.specs.RowLaws.{none-bad, none_found}
@@ -26,7 +25,7 @@ first-same p q before k (x ∷ l) (y ∷ m) e h = rw (e k, first-same p q before
 module _ {X : Type 0} (bad : ℕ → Bool) (before : ℕ) where
   -- the first row that has the fault
   pub first-at : (k i : ℕ) (l : List X) → k ≤ i → i < k + length l → ((j : ℕ) → k ≤ j → j < i → bad j ≡ false) → bad i ≡ true →
-      first_row (λ j x. bad j) before k l ≡ At (before + i)
+      first_row (λ j x. bad j) before k l ≡ Some (before + i)
   unfolding first_row
   first-at k i [] a b none here = absurd (omega arith)
   first-at k i (x ∷ l) a b none here =
@@ -73,16 +72,16 @@ module _ (bs : List Branch) (rows : ℕ) (o : Order) (w : InOrder bs rows o) whe
 
   -- the first row without a rank, or none
   pub first-unranked : (i : ℕ) → 0 < i → i < rows + 1 → ((j : ℕ) → j < i → 0 < j → 0 < get_or o.rank j 0) → get_or o.rank i 0 ≡ 0 →
-      first_lost bs rows ≡ At (4 + i)
+      first_lost bs rows ≡ Some (4 + i)
   first-unranked i a b before here =
       first-at (lost bs rows) 4 1 i (count 1 rows) a (rw count-size (omega arith)) (λ j p q. ranked-not-lost j (before j q p)) (unranked-lost i b here)
 
-  pub none-unranked : ((j : ℕ) → j < rows + 1 → 0 < j → 0 < get_or o.rank j 0) → first_lost bs rows ≡ Nothing
+  pub none-unranked : ((j : ℕ) → j < rows + 1 → 0 < j → 0 < get_or o.rank j 0) → first_lost bs rows ≡ None
   none-unranked all =
       none_found (λ j x. lost bs rows j) 4 1 (count 1 rows) (λ i d q. ranked-not-lost (1 + i) (all (1 + i) (let z = rw count-size at q in omega arith) (omega arith)))
 
   -- where no row has the fault, every node has a place
-  pub all_placed : first_lost bs rows ≡ Nothing → Whole rows o
+  pub all_placed : first_lost bs rows ≡ None → Whole rows o
   all_placed e =
       record {
         ranked = every;

@@ -1,7 +1,6 @@
 -- The order of work of a radial feeder. Node 0 is the source and node k the "to" of row k; `par k` is the node that feeds node k, and what it is at 0 counts for
 -- nothing. Assumes nothing.
-use Rattle.std.specs.Prelude.{Bool, not, List, [], ◌∷◌, ◌≡◌, ◌+◌, ◌<◌, ◌≤◌, suc, zero, ℕ, eqb, get_or, length, take}
-use Rattle.answers.specs.declared.Found.{Found}
+use Rattle.std.specs.Prelude.{Bool, not, List, [], ◌∷◌, ◌≡◌, ◌+◌, ◌<◌, ◌≤◌, suc, zero, ℕ, eqb, get_or, length, take, Option}
 use Rattle.feeder.specs.Feeder.{above, first_row, no_branch}
 use Rattle.feeder.specs.declared.Branch.{Branch}
 use Rattle.integers.specs.Lists.{count}
@@ -79,5 +78,5 @@ pub record Whole (rows : ℕ) (o : Order) : Type 0 where
 abbrev pub lost : List Branch → ℕ → ℕ → Bool
 lost bs rows k = not (eqb (above (parent_in bs) rows k) 0)
 
-abbrev pub first_lost : List Branch → ℕ → Found
+abbrev pub first_lost : List Branch → ℕ → Option ℕ
 first_lost bs rows = first_row (λ k x. lost bs rows k) 4 1 (count 1 rows)

@@ -5,7 +5,6 @@ ghost use Rattle.std.specs.Prelude.{◌≡◌, ◌+◌, ◌<◌, length};
 ghost use Rattle.arrays.specs.Arrays.{branches_of};
 ghost use Rattle.radial.specs.Radial.{InOrder, Linked, Passed, Placed, Stepped, first_lost, made};
 
-use answers::Found;
 use arrays::{Branches, Places, from_at};
 
 // The nodes stand in `order` in an order in which each comes after the one that feeds it: `len` of them are placed. rank[k] is node k's place in it, counted
@@ -76,10 +75,8 @@ fn climb(
     let mut met = [0usize; 201];
     met[0] = 1;
     let mut len = placed;
-    let mut node = 1;
-    while node <= rows {
+    for node in 1..rows + 1 {
         len = place_with_above(branches, rows, node, &mut met, len, order, rank);
-        node += 1;
     }
     len
 }
@@ -96,10 +93,8 @@ fn pass(
     ensures { Passed (branches_of branches.now) rows (made placed order.old rank.old) (made result order.new rank.new) }
 {
     let mut len = placed;
-    let mut k = 1;
-    while k <= rows {
+    for k in 1..rows + 1 {
         len = place(branches, rows, k, len, order, rank);
-        k += 1;
     }
     len
 }
@@ -110,11 +105,11 @@ pub fn order_of(branches: &Branches, rows: usize, order: &mut Places, rank: &mut
     requires { Linked (branches_of branches.now) rows }
     ensures { InOrder (branches_of branches.now) rows (made result order.new rank.new) }
 {
-    let none = [0usize; 201];
-    *order = none;
-    *rank = none;
+    *order = [0; 201];
+    *rank = [0; 201];
     rank[0] = 1;
     let mut len = climb(branches, rows, 1, order, rank);
+    // A while, since it ends where a pass places none, and not after a number of turns.
     while len <= rows {
         let next = pass(branches, rows, len, order, rank);
         if next == len {
@@ -132,16 +127,14 @@ pub fn first_not_reached(
     len: usize,
     order: &Places,
     rank: &Places,
-) -> Found
+) -> Option<usize>
     requires { InOrder (branches_of branches.now) rows (made len order.now rank.now) }
     ensures { result ≡ first_lost (branches_of branches.now) rows }
 {
-    let mut i = 1;
-    while i <= rows {
+    for i in 1..rows + 1 {
         if rank[i] == 0 {
-            return Found::At(4 + i);
+            return Some(4 + i);
         }
-        i += 1;
     }
-    Found::Nothing
+    None
 }

@@ -1,9 +1,8 @@
 -- The reading of a file by its length and its layout, and the rows that the arrays hold. Assumes nothing.
-use Rattle.std.specs.Prelude.{false, true, List, ◌≡◌, ◌+◌, ◌≤◌, ℕ, ℤ, take}
+use Rattle.std.specs.Prelude.{false, true, List, ◌≡◌, ◌+◌, ◌≤◌, ℕ, ℤ, take, Ok, Err}
 use Rattle.std.proofs.Common.{◌∙◌}
 use Rattle.std.proofs.Math.Path.{ap, sym}
 use Rattle.std.proofs.Math.ListN.{length, length-map}
-use Rattle.answers.specs.Answers.{good, refused}
 use Rattle.answers.specs.declared.Refusal.{Refusal}
 use Rattle.answers.specs.declared.Refusal.TheVariants.{TooLong}
 use Rattle.arrays.specs.ArrayLaws.{branches-numbered, loads-numbered}
@@ -23,13 +22,13 @@ use Rattle.tables.specs.Read.{GoodLayout}
 use Rattle.tables.specs.declared.Tables.{Tables}
 
 -- the reading by its length and its layout
-pub read-long : (s : List ℕ) → too_long s ≡ true → reading s ≡ refused TooLong
+pub read-long : (s : List ℕ) → too_long s ≡ true → reading s ≡ Err TooLong
 read-long s e = reading-is s ∙ rw e
 
-pub read-bad : (s : List ℕ) (x : Refusal) → too_long s ≡ false → layout s ≡ refused x → reading s ≡ refused x
+pub read-bad : (s : List ℕ) (x : Refusal) → too_long s ≡ false → layout s ≡ Err x → reading s ≡ Err x
 read-bad s x e h = reading-is s ∙ rw (e, h)
 
-pub read-laid : (s : List ℕ) (r : Rows) → too_long s ≡ false → layout s ≡ good r → reading s ≡ from11 r
+pub read-laid : (s : List ℕ) (r : Rows) → too_long s ≡ false → layout s ≡ Ok r → reading s ≡ from11 r
 read-laid s r e h = reading-is s ∙ rw (e, h)
 
 -- the rows of a layout

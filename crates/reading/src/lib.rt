@@ -12,7 +12,7 @@ ghost use Rattle.feeder.specs.declared.Load.{Load};
 ghost use Rattle.reading.specs.Reading.{Arranged, NumberedIn, ReadAs, ReadInto, ReadPoints, ReadTold, RowsIn, Stored, settings_in};
 ghost use Rattle.feeder.specs.Stages.{from20, from22, from23};
 
-use answers::{Found, Refusal};
+use answers::Refusal;
 use arrays::{Branches, LoadNames, Loads, Names, Places, Settings, branch_at, load_at};
 use feeder::{Branch, Load, Network, Three};
 use integers::{Pair, whole};
@@ -20,46 +20,7 @@ use limits::{first_branch_out, first_load_out, first_not_zero, source_in};
 use names::faults::{first_phase_absent, first_second_to, first_unknown_from};
 use names::{number_branches, number_loads, slots_of};
 use radial::{first_not_reached, order_of};
-use tables::{LayoutEnd, read_layout};
-
-// Whether the file is a feeder.
-#[derive(Clone, Copy)]
-pub enum ReadAnswer {
-    Good,
-    Refused(Refusal),
-}
-
-// The answer, and where it is good what the feeder has besides its arrays.
-#[derive(Clone, Copy)]
-pub struct Read {
-    pub answer: ReadAnswer,
-    pub settings: Settings,
-}
-
-// The answer, and the feeder where it is good.
-#[derive(Clone, Copy)]
-pub struct Reading {
-    pub answer: ReadAnswer,
-    pub network: Network,
-}
-
-fn refuse(x: Refusal) -> Read
-    ensures { result.answer ≡ ReadAnswer.Refused x }
-{
-    let z = Pair { re: 0, im: 0 };
-    let source = Three { a: z, b: z, c: z };
-    let settings = Settings {
-        source,
-        tol: 0,
-        limit: 0,
-        rows: 0,
-        count: 0,
-    };
-    Read {
-        answer: ReadAnswer::Refused(x),
-        settings,
-    }
-}
+use tables::read_layout;
 
 fn pair_at(given: &[i64; 8], k: usize) -> Pair
     requires { (1 ≤ k) × (k ≤ 7) }
@@ -104,25 +65,20 @@ fn read_phases(
     loads: &Loads,
     order: &Places,
     rank: &Places,
-) -> Read
+) -> Result<Settings, Refusal>
     requires rows_bound { settings.rows ≤ 200 }
     requires count_bound { settings.count ≤ 300 }
     requires by_index { (k : ℕ) → (get_or (branches_of branches.now) k no_branch).from ≤ settings.rows }
     requires arranged { Arranged (network_of settings nodes.now branches.now loads.now order.now rank.now) }
-    ensures { (r : Rows) → NumberedIn r settings nodes.now branches.now loads.now → ReadInto (from23 r) result (network_of result.settings nodes.now branches.now loads.now order.now rank.now) }
+    ensures { (r : Rows) → NumberedIn r settings nodes.now branches.now loads.now → ReadInto (from23 r) result (λ s. network_of s nodes.now branches.now loads.now order.now rank.now) }
 {
-    let absent = first_phase_absent(branches, settings.rows, loads, settings.count);
-    if let Found::At(line) = absent {
-        return refuse(Refusal::PhaseAbsent(line));
+    if let Some(line) = first_phase_absent(branches, settings.rows, loads, settings.count) {
+        return Err(Refusal::PhaseAbsent(line));
     }
-    let due = first_not_zero(branches, settings.rows);
-    if let Found::At(line) = due {
-        return refuse(Refusal::NotZero(line));
+    if let Some(line) = first_not_zero(branches, settings.rows) {
+        return Err(Refusal::NotZero(line));
     }
-    Read {
-        answer: ReadAnswer::Good,
-        settings,
-    }
+    Ok(settings)
 }
 
 // 22: the order of work.
@@ -133,16 +89,15 @@ fn read_reached(
     loads: &Loads,
     order: &mut Places,
     rank: &mut Places,
-) -> Read
+) -> Result<Settings, Refusal>
     requires rows_bound { settings.rows ≤ 200 }
     requires count_bound { settings.count ≤ 300 }
     requires by_index { (k : ℕ) → (get_or (branches_of branches.now) k no_branch).from ≤ settings.rows }
-    ensures { (r : Rows) → NumberedIn r settings nodes.now branches.now loads.now → ReadInto (from22 r) result (network_of result.settings nodes.now branches.now loads.now order.new rank.new) }
+    ensures { (r : Rows) → NumberedIn r settings nodes.now branches.now loads.now → ReadInto (from22 r) result (λ s. network_of s nodes.now branches.now loads.now order.new rank.new) }
 {
     let len = order_of(branches, settings.rows, order, rank);
-    let lost = first_not_reached(branches, settings.rows, len, order, rank);
-    if let Found::At(line) = lost {
-        return refuse(Refusal::NotReached(line));
+    if let Some(line) = first_not_reached(branches, settings.rows, len, order, rank) {
+        return Err(Refusal::NotReached(line));
     }
     read_phases(settings, nodes, branches, loads, order, rank)
 }
@@ -157,23 +112,21 @@ fn read_names(
     loads: &mut Loads,
     order: &mut Places,
     rank: &mut Places,
-) -> Read
+) -> Result<Settings, Refusal>
     requires rows_bound { settings.rows ≤ 200 }
     requires count_bound { settings.count ≤ 300 }
     requires stored { Stored settings froms.now nodes.now branches.old names.now loads.old }
-    ensures { (r : Rows) → RowsIn r settings froms.now nodes.now branches.old names.now loads.old → ReadInto (from20 r) result (network_of result.settings nodes.now branches.new loads.new order.new rank.new) }
+    ensures { (r : Rows) → RowsIn r settings froms.now nodes.now branches.old names.now loads.old → ReadInto (from20 r) result (λ s. network_of s nodes.now branches.new loads.new order.new rank.new) }
 {
     let rows = settings.rows;
     let slots = slots_of(nodes, rows + 1);
     number_branches(froms, rows, nodes, &slots, branches);
     number_loads(names, settings.count, nodes, rows + 1, &slots, loads);
-    let unknown = first_unknown_from(branches, rows);
-    if let Found::At(line) = unknown {
-        return refuse(Refusal::UnknownFrom(line));
+    if let Some(line) = first_unknown_from(branches, rows) {
+        return Err(Refusal::UnknownFrom(line));
     }
-    let second = first_second_to(nodes, rows, &slots);
-    if let Found::At(line) = second {
-        return refuse(Refusal::SecondTo(line));
+    if let Some(line) = first_second_to(nodes, rows, &slots) {
+        return Err(Refusal::SecondTo(line));
     }
     read_reached(settings, nodes, branches, loads, order, rank)
 }
@@ -185,17 +138,16 @@ fn first_out(
     rows: usize,
     loads: &Loads,
     count: usize,
-) -> Found
+) -> Option<usize>
     requires rows_bound { rows ≤ 65536 }
     requires count_bound { count ≤ 65536 }
     ensures { (r : Rows) → given ≡ r.given → branches.now ≡ branch_rows r.branches → rows ≡ length r.branches → loads.now ≡ load_rows r.loads → count ≡ length r.loads → result ≡ out_of_limit r }
 {
     if !source_in(given) {
-        return Found::At(2);
+        return Some(2);
     }
-    let found = first_branch_out(branches, rows);
-    if let Found::At(line) = found {
-        return Found::At(line);
+    if let Some(line) = first_branch_out(branches, rows) {
+        return Some(line);
     }
     first_load_out(loads, count, rows + 6)
 }
@@ -208,27 +160,22 @@ pub fn read_into(
     loads: &mut Loads,
     order: &mut Places,
     rank: &mut Places,
-) -> Read
+) -> Result<Settings, Refusal>
     requires nodes_value { nodes.old ≡ replicate 201 0 }
     requires branches_value { branches.old ≡ replicate 201 (no_numbers 17) }
     requires loads_value { loads.old ≡ replicate 300 (no_numbers 6) }
-    ensures { ReadInto (reading file.now) result (network_of result.settings nodes.new branches.new loads.new order.new rank.new) }
+    ensures { ReadInto (reading file.now) result (λ s. network_of s nodes.new branches.new loads.new order.new rank.new) }
 {
     let long = 65536 < file.len();
     if long {
-        return refuse(Refusal::TooLong);
+        return Err(Refusal::TooLong);
     }
     let mut froms = [0u64; 201];
     let mut names = [0u64; 300];
-    let t = read_layout(file, &mut froms, nodes, branches, &mut names, loads);
-    let end = t.end;
-    if let LayoutEnd::Bad(line) = end {
-        return refuse(Refusal::Layout(line));
-    }
+    let t = read_layout(file, &mut froms, nodes, branches, &mut names, loads)?;
     let given = t.given;
-    let out = first_out(given, branches, t.rows, loads, t.count);
-    if let Found::At(line) = out {
-        return refuse(Refusal::OutOfLimit(line));
+    if let Some(line) = first_out(given, branches, t.rows, loads, t.count) {
+        return Err(Refusal::OutOfLimit(line));
     }
     let settings = settings_of(&given, t.rows, t.count);
     read_names(
@@ -242,10 +189,8 @@ fn branches_of(branches: &Branches) -> [Branch; 201]
 {
     let first = branch_at(branches, 0);
     let mut made = [first; 201];
-    let mut k = 0;
-    while k < 201 {
+    for k in 0..201 {
         made[k] = branch_at(branches, k);
-        k += 1;
     }
     made
 }
@@ -256,34 +201,30 @@ fn loads_of(loads: &Loads) -> [Load; 300]
 {
     let first = load_at(loads, 0);
     let mut made = [first; 300];
-    let mut k = 0;
-    while k < 300 {
+    for k in 0..300 {
         made[k] = load_at(loads, k);
-        k += 1;
     }
     made
 }
 
 // The feeder that a file holds, as one value.
-pub fn read_feeder(file: &[u8]) -> Reading
+pub fn read_feeder(file: &[u8]) -> Result<Network, Refusal>
     ensures answer { ReadAs (reading file.now) result }
-    ensures told { ReadTold (reading file.now) result.answer }
-    ensures first { ReadPoints file.now result.answer }
+    ensures told { ReadTold (reading file.now) result }
+    ensures first { ReadPoints file.now result }
 {
     let mut nodes = [0u64; 201];
     let mut rows = [[0i64; 17]; 201];
     let mut cells = [[0i64; 6]; 300];
     let mut order = [0usize; 201];
     let mut rank = [0usize; 201];
-    let read = read_into(
+    let settings = read_into(
         file, &mut nodes, &mut rows, &mut cells, &mut order, &mut rank,
-    );
-    let settings = read.settings;
-    let answer = read.answer;
+    )?;
     let source = settings.source;
     let branches = branches_of(&rows);
     let loads = loads_of(&cells);
-    let network = Network {
+    Ok(Network {
         source,
         tol: settings.tol,
         limit: settings.limit,
@@ -294,6 +235,5 @@ pub fn read_feeder(file: &[u8]) -> Reading
         loads,
         order,
         rank,
-    };
-    Reading { answer, network }
+    })
 }

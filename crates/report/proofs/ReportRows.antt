@@ -1,10 +1,10 @@
 -- A report that is read has as many rows as its feeder has nodes, branches and regulators; one that is not read is refused by 50 and by nothing else. Assumes nothing.
-use Rattle.std.specs.Prelude.{Bool, cond, false, not, true, List, [], ◌∷◌, map, ◌≡◌, refl, suc, zero, ℕ, pos, drop, length, take}
+use Rattle.std.specs.Prelude.{Bool, cond, false, not, true, List, [], ◌∷◌, map, ◌≡◌, refl, suc, zero, ℕ, pos, drop, length, take, Ok}
 use Rattle.std.proofs.Common.{◌∙◌, ap, subst, sym, arith}
 use Prim.Native.String.{String}
 use Rattle.std.proofs.lemmas.List.{length-map}
 use Rattle.answers.specs.AnswerLaws.{bound, not-if, same_good}
-use Rattle.answers.specs.Answers.{Outcome, ◌>>=◌, ◌>>◌, good, refuse_if}
+use Rattle.answers.specs.Answers.{Outcome, ◌>>=◌, ◌>>◌, refuse_if}
 use Rattle.answers.specs.Only.{Only, after-only, good-only, if-only, then-only}
 use Rattle.answers.specs.declared.Refusal.{Refusal}
 use Rattle.answers.specs.declared.Refusal.TheVariants.{ReportLayout}
@@ -14,7 +14,8 @@ use Rattle.integers.specs.Bools.{clash}
 use Rattle.integers.specs.Lists.{all, any}
 use Rattle.integers.specs.Pairs.{inside}
 use Rattle.report.specs.Report.{Reported, branch_header, node_header, report_of, rows_just, table_of, tap_header, tap_row, tap_rows, tap_table, taps_fit, taps_given, totals_header, totals_row, unfiled_taps}
-use Rattle.text.specs.Lines.{Placed, Row, nth, row, text}
+use Rattle.text.specs.Text.{Placed}
+use Rattle.text.specs.Lines.{Row, nth, row, text}
 use Rattle.text.specs.RowRefused.{row-only, text-only}
 
 -- ---- the rows are as many as the feeder's
@@ -24,10 +25,10 @@ pub record RowsMatch (f : Feeder) (r : Reported) : Type 0 where
   pub taps : length r.taps ≡ length (regulators f)
   pub own : r.filed ≡ false → (any (λ k. not (inside 0 (level_of (branch_at f k).device))) (rows_of f) ≡ false) × (r.taps ≡ map (tap_row f) (regulators f))
 
-length-is : (x : Placed (List Row)) (l : List Row) (p : ℕ) → ◌≡◌ {A = Outcome (Placed (List Row))} (good x) (good (l, p)) → length x.0 ≡ length l
+length-is : (x : Placed (List Row)) (l : List Row) (p : ℕ) → ◌≡◌ {A = Outcome (Placed (List Row))} (Ok x) (Ok (l, p)) → length x.0 ≡ length l
 length-is x l p e = ap (λ (y : Placed (List Row)). length y.0) (same_good x (l, p) e)
 
-rows-count : (k m n : ℕ) (s : List ℕ) (at : ℕ) (l : List Row) (p : ℕ) → rows_just k m n s at ≡ good (l, p) → length l ≡ k
+rows-count : (k m n : ℕ) (s : List ℕ) (at : ℕ) (l : List Row) (p : ℕ) → rows_just k m n s at ≡ Ok (l, p) → length l ≡ k
 unfolding rows_just
 rows-count zero m n s at l p e = omega (arith, length-is ([], at) l p e)
 rows-count (suc k) m n s at l p e =
@@ -35,7 +36,7 @@ rows-count (suc k) m n s at l p e =
     let b = bound (rows_just k m n s a.value.1) _ (l, p) a.rest in
     omega (arith, length-is (a.value.0 ∷ b.value.0, b.value.1) l p b.rest, rows-count k m n s a.value.1 b.value.0 b.value.1 b.came)
 
-table-count : (header : String) (k m n : ℕ) (s : List ℕ) (l : List Row) (p : ℕ) → table_of header k m n s ≡ good (l, p) → length l ≡ k
+table-count : (header : String) (k m n : ℕ) (s : List ℕ) (l : List Row) (p : ℕ) → table_of header k m n s ≡ Ok (l, p) → length l ≡ k
 unfolding table_of
 table-count header k m n s l p e =
     let a = bound (text ReportLayout header s 0) _ (l, p) e in
@@ -43,7 +44,7 @@ table-count header k m n s l p e =
     let c = bound (text ReportLayout "\n" s b.value.1) _ (l, p) b.rest in
     omega (arith, length-is (b.value.0, c.value) l p c.rest, rows-count k m n s a.value b.value.0 b.value.1 b.came)
 
-tap-table-count : (k : ℕ) (s : List ℕ) (l : List Row) → tap_table k s ≡ good l → length l ≡ k
+tap-table-count : (k : ℕ) (s : List ℕ) (l : List Row) → tap_table k s ≡ Ok l → length l ≡ k
 unfolding tap_table
 tap-table-count k s l e =
     let a = bound (text ReportLayout tap_header s 0) _ l e in
@@ -71,15 +72,15 @@ pub record ReportParts (f : Feeder) (s : List ℕ) (r : Reported) : Type 0 where
   pub behind-branches : ℕ
   pub behind-totals : ℕ
   pub totals-row : Row
-  pub nodes : table_of node_header (suc (row_count f)) 1 6 s ≡ good (r.nodes, behind-nodes)
-  pub branches : table_of branch_header (row_count f) 2 8 (drop behind-nodes s) ≡ good (r.branches, behind-branches)
-  pub totals : totals_row (drop behind-branches (drop behind-nodes s)) ≡ good (totals-row, behind-totals)
+  pub nodes : table_of node_header (suc (row_count f)) 1 6 s ≡ Ok (r.nodes, behind-nodes)
+  pub branches : table_of branch_header (row_count f) 2 8 (drop behind-nodes s) ≡ Ok (r.branches, behind-branches)
+  pub totals : totals_row (drop behind-branches (drop behind-nodes s)) ≡ Ok (totals-row, behind-totals)
   pub totals-are : totals-row.values ≡ r.totals
-  pub taps : tap_rows f (drop behind-branches (drop behind-nodes s)) behind-totals ≡ good r.taps
+  pub taps : tap_rows f (drop behind-branches (drop behind-nodes s)) behind-totals ≡ Ok r.taps
   pub filed-is : not (file_end (drop behind-branches (drop behind-nodes s)) behind-totals) ≡ r.filed
   pub taps-in : taps_outside f r.taps ≡ false
 
-pub report-parts : (f : Feeder) (s : List ℕ) (r : Reported) → report_of f s ≡ good r → ReportParts f s r
+pub report-parts : (f : Feeder) (s : List ℕ) (r : Reported) → report_of f s ≡ Ok r → ReportParts f s r
 unfolding report_of
 report-parts f s r e =
     let a = bound (table_of node_header (suc (row_count f)) 1 6 s) _ r e in
@@ -98,35 +99,35 @@ report-parts f s r e =
       behind-branches = b.value.1;
       behind-totals = c.value.1;
       totals-row = c.value.0;
-      nodes = a.came ∙ ap (λ (y : Reported). good (y.nodes, a.value.1)) made;
-      branches = b.came ∙ ap (λ (y : Reported). good (y.branches, b.value.1)) made;
+      nodes = a.came ∙ ap (λ (y : Reported). Ok (y.nodes, a.value.1)) made;
+      branches = b.came ∙ ap (λ (y : Reported). Ok (y.branches, b.value.1)) made;
       totals = c.came;
       totals-are = ap (λ (y : Reported). y.totals) made;
-      taps = d.came ∙ ap (λ (y : Reported). good y.taps) made;
+      taps = d.came ∙ ap (λ (y : Reported). Ok y.taps) made;
       filed-is = ap (λ (y : Reported). y.filed) made;
       taps-in = subst (λ (y : Reported). taps_outside f y.taps ≡ false) made m.0;
     }
 
 -- the rows of the last table: read, where it is there, or the feeder's own where no level is above 0
 pub record TapsRead (f : Feeder) (s : List ℕ) (at : ℕ) (filed : Bool) (l : List Row) : Type 0 where
-  pub table : filed ≡ true → (p : ℕ) × ((text ReportLayout "\n" s at ≡ good p) × (tap_table (length (regulators f)) (drop p s) ≡ good l))
+  pub table : filed ≡ true → (p : ℕ) × ((text ReportLayout "\n" s at ≡ Ok p) × (tap_table (length (regulators f)) (drop p s) ≡ Ok l))
   pub own : filed ≡ false → (any (λ k. not (inside 0 (level_of (branch_at f k).device))) (rows_of f) ≡ false) × (l ≡ map (tap_row f) (regulators f))
 
-pub taps-read : (f : Feeder) (s : List ℕ) (at : ℕ) (l : List Row) → tap_rows f s at ≡ good l → TapsRead f s at (not (file_end s at)) l
+pub taps-read : (f : Feeder) (s : List ℕ) (at : ℕ) (l : List Row) → tap_rows f s at ≡ Ok l → TapsRead f s at (not (file_end s at)) l
 unfolding tap_rows unfiled_taps
 taps-read f s at l e = go (file_end s at) refl e
   where
-    go : (c : Bool) → file_end s at ≡ c → cond c (unfiled_taps f) (text ReportLayout "\n" s at >>= λ p. tap_table (length (regulators f)) (drop p s)) ≡ good l → TapsRead f s at (not c) l
+    go : (c : Bool) → file_end s at ≡ c → cond c (unfiled_taps f) (text ReportLayout "\n" s at >>= λ p. tap_table (length (regulators f)) (drop p s)) ≡ Ok l → TapsRead f s at (not c) l
     go true z h = record {
       table = λ n. clash true refl (sym n);
-      own = λ n. let w = not-if (any (λ k. not (inside 0 (level_of (branch_at f k).device))) (rows_of f)) ReportLayout (good (map (tap_row f) (regulators f))) l h in (w.0, sym (same_good _ l w.1));
+      own = λ n. let w = not-if (any (λ k. not (inside 0 (level_of (branch_at f k).device))) (rows_of f)) ReportLayout (Ok (map (tap_row f) (regulators f))) l h in (w.0, sym (same_good _ l w.1));
     }
     go false z h = record {
       table = λ n. let w = bound (text ReportLayout "\n" s at) (λ p. tap_table (length (regulators f)) (drop p s)) l h in (w.value, (w.came, w.rest));
       own = λ n. clash true refl n;
     }
 
-pub rows-match : (f : Feeder) (s : List ℕ) (r : Reported) → report_of f s ≡ good r → RowsMatch f r
+pub rows-match : (f : Feeder) (s : List ℕ) (r : Reported) → report_of f s ≡ Ok r → RowsMatch f r
 rows-match f s r e =
     let w = report-parts f s r e in
     let last : List ℕ = drop w.behind-branches (drop w.behind-nodes s) in

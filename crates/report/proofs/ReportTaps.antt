@@ -1,12 +1,11 @@
 -- A report that is read has taps within ±16, and 0 on absent phases: its feeder with them keeps its form. Assumes nothing.
-use Rattle.std.specs.Prelude.{Bool, ◌&&◌, cond, false, List, map, ◌≡◌, pos, get_or, length}
+use Rattle.std.specs.Prelude.{Bool, ◌&&◌, cond, false, List, map, ◌≡◌, pos, get_or, length, Ok}
 use Rattle.std.proofs.Math.Bool.{true}
 use Rattle.std.proofs.Common.{◌∙◌, ap, sym, leb-true}
 use Rattle.std.proofs.Math.Path.{refl}
 use Prim.Native.Nat.{◌+◌, ◌<◌, suc, ℕ}
 use native.Mathlib.Omega.{arith}
 use Rattle.std.proofs.lemmas.Bool.{not-false}
-use Rattle.answers.specs.Answers.{good}
 use Rattle.feeder.specs.Feeder.{Feeder, branch_at, has, no_taps, place_of, regulates, regulators, row_count, tap_at, tapped, taps_on}
 use Rattle.feeder.proofs.RowFacts.{Formed}
 use Rattle.feeder.specs.RowLaws.{each-true}
@@ -14,8 +13,7 @@ use Rattle.feeder.proofs.TapLaws.{Retapped, TapsIn, all-place, branch-tapped, ge
 use Rattle.feeder.specs.declared.Device.{Device}
 use Rattle.feeder.specs.declared.Device.TheVariants.{Line, Regulator, Transformer}
 use Rattle.feeder.specs.declared.Phase.{Phase}
-use Rattle.feeder.specs.declared.Phases.{Phases}
-use Rattle.feeder.specs.declared.Taps.{Taps}
+use Rattle.feeder.specs.Phased.{Phases, Taps}
 use Rattle.integers.specs.Bools.{both, clash}
 use Rattle.integers.specs.ListLaws.{all_true, get_or-tab}
 use Rattle.integers.specs.Lists.{All}
@@ -53,7 +51,7 @@ fits_in f t e = record { small = λ p. leb-true _ _ (both (inside 16 (tap_at t p
     go p true h n = clash true refl n
     go p false h n = inside-zero (tap_at t p) h
 
-module _ (f : Feeder) (s : List ℕ) (r : Reported) (e : report_of f s ≡ good r) where
+module _ (f : Feeder) (s : List ℕ) (r : Reported) (e : report_of f s ≡ Ok r) where
   given-in : (k : ℕ) → k < row_count f → regulates (branch_at f (suc k)).device ≡ true → TapsIn (branch_at f (suc k)).phases (taps_given f r.taps (suc k))
   given-in k q g =
       let w = report-parts f s r e in

@@ -1,5 +1,5 @@
 -- The report's text is read back as the rows that were written, it is not too long, and its rows hold the names, voltages, currents, losses and totals. Assumes nothing.
-use Rattle.std.specs.Prelude.{Bool, cond, false, ◌≡◌, nat_abs, pos, ℤ, get_or, take}
+use Rattle.std.specs.Prelude.{Bool, cond, false, ◌≡◌, nat_abs, pos, ℤ, get_or, take, Ok}
 use Rattle.std.proofs.Math.Bool.{true}
 use mathlib.Core.List.{List, [], ◌++◌, ◌∷◌, append_assoc, append-nil, map}
 use Rattle.std.proofs.Common.{◌∙◌, length-drop}
@@ -11,7 +11,6 @@ use Rattle.std.proofs.Math.Dec.{eqb}
 use Rattle.std.proofs.Math.ListN.{drop, length, length-append, length-map}
 use Rattle.std.proofs.Math.Seq.{drop-append_seam, ext_get_or}
 use borrow.Author.Tests.{eq-eqb, le-leb, le-ltb, ne_eqb}
-use Rattle.answers.specs.Answers.{good}
 use Rattle.answers.specs.declared.Refusal.TheVariants.{ReportLayout}
 use Rattle.equations.specs.Equations.{drawn_power, loss_of, lost_power, source_power, zero3}
 use Rattle.equations.specs.Sizes.{Within3}
@@ -20,9 +19,7 @@ use Rattle.feeder.specs.RowLaws.{true-each}
 use Rattle.feeder.proofs.TapLaws.{Retapped, TapsIn, all-chosen, few-regulators, phases-same, regulators-same}
 use Rattle.feeder.specs.declared.Phase.{Phase}
 use Rattle.feeder.specs.declared.Phase.TheVariants.{A, B, C}
-use Rattle.feeder.specs.declared.Phases.{Phases}
-use Rattle.feeder.specs.declared.Taps.{Taps}
-use Rattle.feeder.specs.declared.Three.{Three}
+use Rattle.feeder.specs.Phased.{Phases, Taps, Three}
 use Rattle.integers.specs.Bools.{joined as and-true}
 use Rattle.integers.specs.ListLaws.{all-count, all-image, get_or_map, get_or-tab, length-tab, true-all}
 use Rattle.integers.specs.Lists.{All, all, count, tab}
@@ -159,11 +156,11 @@ module _ (f : Feeder) (v i : List Three) (k : ℕ) (w : Writable f v i k) where
   abbrev rest : List ℕ
   rest = branches_text f i ++ last
 
-  nodes-back : table_of node_header (suc (row_count f)) 1 6 (nodes_text f v ++ rest) ≡ good (map (row_of_node f v) (0 ∷ rows_of f), length (nodes_text f v))
+  nodes-back : table_of node_header (suc (row_count f)) 1 6 (nodes_text f v ++ rest) ≡ Ok (map (row_of_node f v) (0 ∷ rows_of f), length (nodes_text f v))
   unfolding nodes_text count
   nodes-back = rw (length-tab (λ (j : ℕ). j) 1 (row_count f)) at (table-back (node_line f v) (row_of_node f v) 1 6 node_header (0 ∷ rows_of f) nodes-written rest)
 
-  branches-back : table_of branch_header (row_count f) 2 8 rest ≡ good (map (row_of_branch f i) (rows_of f), length (branches_text f i))
+  branches-back : table_of branch_header (row_count f) 2 8 rest ≡ Ok (map (row_of_branch f i) (rows_of f), length (branches_text f i))
   unfolding branches_text count
   branches-back = rw (length-tab (λ (j : ℕ). j) 1 (row_count f)) at (table-back (branch_line f i) (row_of_branch f i) 2 8 branch_header (rows_of f) branches-written last)
 
@@ -177,13 +174,13 @@ module _ (f : Feeder) (v i : List Three) (k : ℕ) (w : Writable f v i k) where
   after-totals : drop behind last ≡ bytes "\n" ++ taps_text f
   after-totals = past last (0 + length (bytes totals_header)) (row_text (row_of_totals f v i k)) (bytes "\n" ++ taps_text f) after-header
 
-  totals-back : totals_row last ≡ good (row_of_totals f v i k, behind)
+  totals-back : totals_row last ≡ Ok (row_of_totals f v i k, behind)
   unfolding totals_row totals_text
   totals-back =
       let h : String = totals_header in
       simp (text-back ReportLayout h last 0 (totals_line f v i k ++ bytes "\n" ++ taps_text f) (simp append_assoc), row_back ReportLayout 0 7 (row_of_totals f v i k) totals-readable last (0 + length (bytes h)) (bytes "\n" ++ taps_text f) after-header)
 
-  tap-table-back : tap_table (length (regulators f)) (taps_text f) ≡ good (map (tap_row f) (regulators f))
+  tap-table-back : tap_table (length (regulators f)) (taps_text f) ≡ Ok (map (tap_row f) (regulators f))
   unfolding tap_table taps_text
   tap-table-back =
       let h : String = tap_header in
@@ -264,7 +261,7 @@ module _ (e f : Feeder) (h : Retapped e f) (v i : List Three) (k : ℕ) (w : Wri
   there = ne_eqb (behind f v i k w) (length (last f v i k w))
       (λ z. omega (arith, length-drop (behind f v i k w) (last f v i k w), ap length (after-totals f v i k w), length-append (bytes "\n") (taps_text f), one_byte))
 
-  taps-back : tap_rows e (last f v i k w) (behind f v i k w) ≡ good (map (tap_row f) (regulators f))
+  taps-back : tap_rows e (last f v i k w) (behind f v i k w) ≡ Ok (map (tap_row f) (regulators f))
   unfolding tap_rows
   taps-back =
       let s : List ℕ = last f v i k w in
@@ -285,11 +282,11 @@ module _ (e f : Feeder) (h : Retapped e f) (v i : List Three) (k : ℕ) (w : Wri
   unfolding report_rows
   reported-feeder = rows-feeder e f h (report_rows f v i k) refl
 
-  pub report-read : report_of e (report_text f v i k) ≡ good (report_rows f v i k)
+  pub report-read : report_of e (report_text f v i k) ≡ Ok (report_rows f v i k)
   unfolding report_of report_text report_rows
   report-read =
-      let nodes : table_of node_header (suc (row_count e)) 1 6 (nodes_text f v ++ rest f v i k w) ≡ good (map (row_of_node f v) (0 ∷ rows_of f), length (nodes_text f v)) = rw (← h.rows) (nodes-back f v i k w) in
-      let branches : table_of branch_header (row_count e) 2 8 (rest f v i k w) ≡ good (map (row_of_branch f i) (rows_of f), length (branches_text f i)) = rw (← h.rows) (branches-back f v i k w) in
+      let nodes : table_of node_header (suc (row_count e)) 1 6 (nodes_text f v ++ rest f v i k w) ≡ Ok (map (row_of_node f v) (0 ∷ rows_of f), length (nodes_text f v)) = rw (← h.rows) (nodes-back f v i k w) in
+      let branches : table_of branch_header (row_count e) 2 8 (rest f v i k w) ≡ Ok (map (row_of_branch f i) (rows_of f), length (branches_text f i)) = rw (← h.rows) (branches-back f v i k w) in
       let sweeps : between (pos 1) (pos e.limit) (nth (row_of_totals f v i k).values 1) ≡ true = rw (← h.limit) (sweeps-in f v i k w) in
       rw (nodes, drop-append_seam (nodes_text f v) (rest f v i k w), branches, drop-append_seam (branches_text f i) (last f v i k w), totals-back f v i k w, taps-back, there, nodes-in f v i k w, branches-in f v i k w, sweeps, fits)
 

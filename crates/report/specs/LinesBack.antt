@@ -1,12 +1,11 @@
 -- Rows that were written one behind the other are read back, and so is a table; and how long they can be. Assumes nothing.
 use mathlib.Core.List.{List, [], ◌++◌, ◌∷◌, append_assoc, map}
 use Rattle.std.proofs.Common.{◌∙◌, suc-mul, arith}
-use Rattle.std.specs.Prelude.{◌≡◌, ℤ}
+use Rattle.std.specs.Prelude.{◌≡◌, ℤ, Ok}
 use Rattle.std.proofs.Math.Path.{ap}
 use Prim.Native.Nat.{◌*◌, ◌+◌, ◌<◌, ◌≤◌, suc, ℕ}
 use Prim.Native.String.{String}
 use Rattle.std.proofs.Math.ListN.{drop, length, length-append}
-use Rattle.answers.specs.Answers.{good}
 use Rattle.answers.specs.declared.Refusal.TheVariants.{ReportLayout}
 use Rattle.integers.specs.Lists.{All}
 use Rattle.report.specs.Report.{rows_just, table_of, table_text}
@@ -24,16 +23,16 @@ pub record WrittenAs {X : Type 0} (g : X → List ℕ) (h : X → Row) (m n : �
   pub readable : Readable m n (h x)
 
 module _ {X : Type 0} (g : X → List ℕ) (h : X → Row) (m n : ℕ) where
-  pub rows_back : (l : List X) → All (WrittenAs g h m n) l → (s : List ℕ) (at : ℕ) (t : List ℕ) → drop at s ≡ joined g l ++ t → rows_just (length l) m n s at ≡ good (map h l, at + length (joined g l))
+  pub rows_back : (l : List X) → All (WrittenAs g h m n) l → (s : List ℕ) (at : ℕ) (t : List ℕ) → drop at s ≡ joined g l ++ t → rows_just (length l) m n s at ≡ Ok (map h l, at + length (joined g l))
   unfolding joined rows_just
-  rows_back [] a s at t e = ap (λ (p : ℕ). good ([], p)) (omega arith)
+  rows_back [] a s at t e = ap (λ (p : ℕ). Ok ([], p)) (omega arith)
   rows_back (x ∷ l) a s at t e =
       let w = a.0 in
       let c : drop at s ≡ row_text (h x) ++ (joined g l ++ t) = e ∙ append_assoc (g x) (joined g l) t ∙ ap (λ (y : List ℕ). y ++ (joined g l ++ t)) w.text in
       let k = rows_back l a.1 s (at + length (row_text (h x))) t (past s at (row_text (h x)) (joined g l ++ t) c) in
-      simp (row_back ReportLayout m n (h x) w.readable s at (joined g l ++ t) c, k) (ap (λ (p : ℕ). good (h x ∷ map h l, p)) (simp (length-append, w.text) (omega arith)))
+      simp (row_back ReportLayout m n (h x) w.readable s at (joined g l ++ t) c, k) (ap (λ (p : ℕ). Ok (h x ∷ map h l, p)) (simp (length-append, w.text) (omega arith)))
 
-  pub table-back : (w : String) (l : List X) → All (WrittenAs g h m n) l → (t : List ℕ) → table_of w (length l) m n (table_text g w l ++ t) ≡ good (map h l, length (table_text g w l))
+  pub table-back : (w : String) (l : List X) → All (WrittenAs g h m n) l → (t : List ℕ) → table_of w (length l) m n (table_text g w l ++ t) ≡ Ok (map h l, length (table_text g w l))
   unfolding table_of
   table-back w l a t =
       let s : List ℕ = table_text g w l ++ t in
@@ -43,7 +42,7 @@ module _ {X : Type 0} (g : X → List ℕ) (h : X → Row) (m n : ℕ) where
       let d : drop p s ≡ joined g l ++ y = past s 0 (bytes w) (joined g l ++ y) c in
       let k : drop (p + length (joined g l)) s ≡ y = past s p (joined g l) y d in
       simp (text-back ReportLayout w s 0 (joined g l ++ y) c, rows_back l a s p y d, text-back ReportLayout "\n" s (p + length (joined g l)) t k)
-      (ap (λ (q : ℕ). good (map h l, q)) (simp length-append (omega arith)))
+      (ap (λ (q : ℕ). Ok (map h l, q)) (simp length-append (omega arith)))
 
 -- ---- lengths
 -- numbers of at most b bytes each

@@ -1,19 +1,17 @@
 -- Files (01, 02): the report's text, and the report read back. Assumes nothing.
-use Rattle.std.specs.Prelude.{Bool, ◌&&◌, cond, not, true, List, [], ◌++◌, ◌∷◌, map, suc, zero, ℕ, pos, ℤ, drop, get_or, length, take}
+use Rattle.std.specs.Prelude.{Bool, ◌&&◌, cond, not, true, List, [], ◌++◌, ◌∷◌, map, suc, zero, ℕ, pos, ℤ, drop, get_or, length, take, Ok}
 use Prim.Native.String.{String}
-use Rattle.answers.specs.Answers.{Outcome, ◌>>=◌, ◌>>◌, good, refuse_if}
+use Rattle.answers.specs.Answers.{Outcome, ◌>>=◌, ◌>>◌, refuse_if}
 use Rattle.answers.specs.declared.Refusal.TheVariants.{ReportLayout}
 use Rattle.equations.specs.Equations.{at, drawn_power, loss_of, lost_power, source_power, zero3}
 use Rattle.feeder.specs.Feeder.{Feeder, abc, between, branch_at, has, level_of, pair_at, parent, place_of, regulators, row_count, rows_of, tap_at, taps_on, three_at, with_taps}
 use Rattle.feeder.specs.Layout.{file_end}
-use Rattle.feeder.specs.declared.Phases.{Phases}
-use Rattle.feeder.specs.declared.Taps.{Taps}
-use Rattle.feeder.specs.declared.Three.{Three}
+use Rattle.feeder.specs.Phased.{Phases, Taps, Three}
 use Rattle.integers.specs.Lists.{all, any, tab}
 use Rattle.integers.specs.Pairs.{inside}
 use Rattle.integers.specs.declared.Pair.{Pair}
-use Rattle.text.specs.Lines.{Placed, Row, nth, row, row_text, text}
-use Rattle.text.specs.Text.{bytes, decimal, joined, letters, line}
+use Rattle.text.specs.Lines.{Row, nth, row, row_text, text}
+use Rattle.text.specs.Text.{bytes, decimal, joined, letters, line, Placed}
 
 -- ---- the text: "A table is a line of names, exactly those shown below, then lines of values in that order, comma-separated"
 abbrev pub node_header : String
@@ -88,11 +86,11 @@ reported_text r = table_text row_text node_header r.nodes ++ (table_text row_tex
 
 -- just k rows of m names and n numbers
 unfoldable pub rows_just : ℕ → ℕ → ℕ → List ℕ → ℕ → Outcome (Placed (List Row))
-rows_just zero m n s at = good ([], at)
+rows_just zero m n s at = Ok ([], at)
 rows_just (suc k) m n s at = do
   (x, p) ← row ReportLayout m n s at
   (xs, q) ← rows_just k m n s p
-  good (x ∷ xs, q)
+  Ok (x ∷ xs, q)
 
 -- a table of k such rows, and the place behind the empty line after it
 unfoldable pub table_of : String → ℕ → ℕ → ℕ → List ℕ → Outcome (Placed (List Row))
@@ -100,7 +98,7 @@ table_of header k m n s = do
   p ← text ReportLayout header s 0
   (l, p) ← rows_just k m n s p
   p ← text ReportLayout "\n" s p
-  good (l, p)
+  Ok (l, p)
 
 -- the row of the totals, and the place behind it
 unfoldable pub totals_row : List ℕ → Outcome (Placed Row)
@@ -114,7 +112,7 @@ tap_table k s = do
   p ← text ReportLayout tap_header s 0
   (l, p) ← rows_just k 1 3 s p
   refuse_if (not (file_end s p)) ReportLayout
-  good l
+  Ok l
 
 -- a regulator's row in it
 unfoldable pub tap_row : Feeder → ℕ → Row
@@ -124,7 +122,7 @@ tap_row f k = let t = taps_on (branch_at f k).device in record { words = get_or 
 unfoldable pub unfiled_taps : Feeder → Outcome (List Row)
 unfiled_taps f = do
   refuse_if (any (λ k. not (inside 0 (level_of (branch_at f k).device))) (rows_of f)) ReportLayout
-  good (map (tap_row f) (regulators f))
+  Ok (map (tap_row f) (regulators f))
 
 unfoldable pub tap_rows : Feeder → List ℕ → ℕ → Outcome (List Row)
 tap_rows f s at = cond (file_end s at) (unfiled_taps f) (do
@@ -153,7 +151,7 @@ report_of f s = do
   refuse_if (not (all (λ r. all (inside 2000000) (take 6 r.values)) branches)) ReportLayout
   refuse_if (not (between (pos 1) (pos f.limit) (nth totals.values 1))) ReportLayout
   refuse_if (not (all (λ k. taps_fit (branch_at f k).phases (taps_given f taps k)) (regulators f))) ReportLayout
-  good (record { nodes = nodes; branches = branches; totals = totals.values; filed = not (file_end (drop q (drop p s)) n); taps = taps })
+  Ok (record { nodes = nodes; branches = branches; totals = totals.values; filed = not (file_end (drop q (drop p s)) n); taps = taps })
 
 -- the reported taps by node number, and the feeder with them: "The check reads taps from there"
 unfoldable pub reported_taps : Feeder → Reported → List Taps

@@ -1,18 +1,17 @@
 -- A feeder and its report in memory, with the currents worked at the reported voltages: what the tests over them ask for. Assumes nothing.
-use Rattle.std.specs.Prelude.{◌&&◌, ◌≡◌, ◌+◌, ◌<◌, ◌≤◌, suc, zero, ℕ, nat_abs, ℤ, length}
+use Rattle.std.specs.Prelude.{◌&&◌, ◌≡◌, ◌+◌, ◌<◌, ◌≤◌, suc, zero, ℕ, nat_abs, ℤ, length, Option, None, Result}
 use Rattle.std.proofs.Math.Bool.{cond, false, not, true}
 use mathlib.Core.List.{List, ◌∷◌, map}
 use Rattle.std.proofs.Common.{◌∙◌, subst, arith}
 use Rattle.std.proofs.Math.Path.{ap, ap₂, sym}
 use Rattle.std.proofs.Math.ListN.{get_or, length-map}
-use Rattle.answers.specs.declared.Found.{Found}
-use Rattle.answers.specs.declared.Found.TheVariants.{Nothing}
-use Rattle.equations.specs.Equations.{current_beyond, downward, drawn_power, loss_of, lost_power, power, source_power, voltages, zero3}
+use Rattle.std.proofs.lemmas.Result.{on_ok_weaker}
+use Rattle.equations.specs.Equations.{current_beyond, currents, downward, drawn_power, loss_of, lost_power, power, source_power, voltages, zero3}
 use Rattle.feeder.specs.Feeder.{Feeder, branch_at, first_row, no_branch, parent, row_count, rows_of, tap_at, taps_on, three_at}
 use Rattle.feeder.specs.Network.{Held, branch_array, kept}
 use Rattle.feeder.specs.RowLaws.{held, or-none}
 use Rattle.feeder.specs.declared.Network.{Network}
-use Rattle.feeder.specs.declared.Three.{Three}
+use Rattle.feeder.specs.Phased.{Three}
 use Rattle.integers.specs.Pairs.{0c}
 use Rattle.integers.specs.declared.Pair.{Pair}
 use Rattle.deviations.specs.Deviations.{Comparable, differ, first_off}
@@ -26,7 +25,7 @@ use Rattle.verdicts.specs.ReportFaults.{worked_currents}
 use Rattle.verdicts.proofs.Tests.{same3-true}
 use Rattle.report_reader.specs.Read.{ReportHeld, ReportRead, TapsHeld}
 use Rattle.sweeps.specs.Sweeps.{Known, WorkedIs, work_of}
-use Rattle.sweeps.specs.declared.Worked.{Worked}
+use Rattle.sweeps.specs.declared.WorkError.{WorkError}
 use Rattle.feeder.proofs.TapLaws.{Retapped, retapped-self, retapped-with}
 use Rattle.feeder.specs.declared.Branch.{Branch}
 use Rattle.feeder.specs.declared.Phase.{Phase}
@@ -56,16 +55,6 @@ pub record InHand (f : Feeder) (x : Reported) (g : Network) (t : ReportRead) (i 
   pub currents-are : i ≡ kept zero3 201 (worked_currents f x)
   pub drawn-is : drawn ≡ drawn_power f (reported_voltages x)
 
--- the arrays that 55, and 53 to 55, are read off are those of t
-pub record Totalled (losses : List Pair) (totals : List ℤ) (t : ReportRead) : Type 0 where
-  pub losses-are : losses ≡ t.losses
-  pub totals-are : totals ≡ t.totals
-
-pub record Compared (voltages currents : List Three) (losses : List Pair) (totals : List ℤ) (t : ReportRead) : Type 0 where
-  pub voltages-are : voltages ≡ t.voltages
-  pub currents-are : currents ≡ t.currents
-  pub totalled : Totalled losses totals t
-
 -- ---- the voltages of a report at each place
 module _ (f : Feeder) (g : Network) (x : Reported) (t : ReportRead) (h : Held f g) (w : ReportHeld (row_count f) x t) where
   pub voltages-held : Same t.voltages (reported_voltages x)
@@ -75,16 +64,19 @@ module _ (f : Feeder) (g : Network) (x : Reported) (t : ReportRead) (h : Held f 
   }
 
   -- 52 has the source's voltages equal
-  pub source_first : source_differs f x ≡ Nothing → get_or t.voltages 0 zero3 ≡ g.source
+  pub source_first : source_differs f x ≡ None → get_or t.voltages 0 zero3 ≡ g.source
   unfolding source_differs
   source_first e = voltages-held.place 0 ∙ same3-true _ _ (held _ 2 (or-none _ _ e).0) ∙ sym h.source
 
   -- what is worked at the array is worked at the report's voltages
-  pub work-held : (r : Worked) (i : List Three) → WorkedIs f t.voltages r i → WorkedIs f (reported_voltages x) r i
-  work-held r i k = record { work-is = k.work-is ∙ (λ j. work_of (zero-voltage-same f voltages-held j) (load-beyond-same f voltages-held j) (current_beyond f (currents-same f voltages-held j))); currents-are = λ e. k.currents-are e ∙ ap (kept zero3 201) (currents-same f voltages-held); drawn-is = λ e. k.drawn-is e ∙ drawn-same f voltages-held }
+  pub work-held : (r : Result Pair WorkError) (i : List Three) → WorkedIs f t.voltages r i → WorkedIs f (reported_voltages x) r i
+  work-held r i k = record {
+    work-is = k.work-is ∙ (λ j. work_of (zero-voltage-same f voltages-held j) (load-beyond-same f voltages-held j) (current_beyond f (currents-same f voltages-held j)) (drawn-same f voltages-held j));
+    currents-are = on_ok_weaker r (λ (e : i ≡ kept zero3 201 (currents f t.voltages)). e ∙ ap (kept zero3 201) (currents-same f voltages-held)) k.currents-are;
+  }
 
 -- 54's values are in their limits
-pub comparable : (g : Network) (t : ReportRead) (m : Met g t) → source_differs m.known.feeder m.report ≡ Nothing → Comparable g.source t.voltages g.tol
+pub comparable : (g : Network) (t : ReportRead) (m : Met g t) → source_differs m.known.feeder m.report ≡ None → Comparable g.source t.voltages g.tol
 comparable g t m e = record {
   first = source_first m.known.feeder g m.report t m.known.held m.read e;
   each = m.read.small_voltages;
@@ -107,7 +99,7 @@ module _ (f : Feeder) (x : Reported) (g : Network) (t : ReportRead) (i : List Th
   sent-held p e = e ∙ ap₂ power h.held.source (currents-held.place 0)
 
   -- 54 of the arrays is 54 of the report
-  pub off-held : {r : Found} → r ≡ first_off f g.tol (voltages f i) t.voltages → r ≡ voltage_off f x (voltages f (worked_currents f x))
+  pub off-held : {r : Option ℕ} → r ≡ first_off f g.tol (voltages f i) t.voltages → r ≡ voltage_off f x (voltages f (worked_currents f x))
   unfolding voltage_off off below_off
   off-held e =
       let tol = h.held.tol in

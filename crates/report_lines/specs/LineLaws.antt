@@ -4,8 +4,7 @@ use Rattle.std.proofs.Common.{arith, length-append}
 use Rattle.equations.specs.Equations.{at}
 use Rattle.feeder.specs.declared.Phase.{Phase}
 use Rattle.feeder.specs.declared.Phase.TheVariants.{A, B, C}
-use Rattle.feeder.specs.declared.Taps.{Taps}
-use Rattle.feeder.specs.declared.Three.{Three}
+use Rattle.feeder.specs.Phased.{Taps, Three}
 use Rattle.integers.specs.declared.Pair.{Pair}
 use Rattle.report_lines.specs.Lines.{branch_row, node_row, pair_fields, tap_row, three_fields, totals_row}
 use Rattle.report_lines.specs.declared.Figures.{Figures}

@@ -1,7 +1,6 @@
 -- The report's lines over what stands on them. Assumes nothing.
 use Rattle.std.specs.Prelude.{List, [], ◌++◌, ◌∷◌, ℕ, pos}
-use Rattle.feeder.specs.declared.Taps.{Taps}
-use Rattle.feeder.specs.declared.Three.{Three}
+use Rattle.feeder.specs.Phased.{Taps, Three}
 use Rattle.integers.specs.declared.Pair.{Pair}
 use Rattle.report_lines.specs.declared.Figures.{Figures}
 use Rattle.text.specs.Text.{decimal, letters}

@@ -14,7 +14,7 @@ fn put_field(out: &mut [u8], at: usize, z: i64) -> usize
     requires { at + length (44 ∷ decimal z) ≤ length out.old }
     ensures { Written out.old at (44 ∷ decimal z) result out.new }
 {
-    let p = put_byte(out, at, 44);
+    let p = put_byte(out, at, b',');
     put_number(out, p, z)
 }
 
@@ -42,7 +42,7 @@ pub fn put_node(out: &mut [u8], at: usize, name: u64, v: Three) -> usize
 {
     let p = put_name(out, at, name);
     let q = put_three(out, p, v);
-    put_byte(out, q, 10)
+    put_byte(out, q, b'\n')
 }
 
 // A branch's from-name and to-name, currents and loss.
@@ -51,11 +51,11 @@ pub fn put_branch(out: &mut [u8], at: usize, from: u64, to: u64, i: Three, loss:
     ensures { Written out.old at (branch_row from to i loss) result out.new }
 {
     let p = put_name(out, at, from);
-    let q = put_byte(out, p, 44);
+    let q = put_byte(out, p, b',');
     let r = put_name(out, q, to);
     let s = put_three(out, r, i);
     let t = put_pair(out, s, loss);
-    put_byte(out, t, 10)
+    put_byte(out, t, b'\n')
 }
 
 // The sweeps and the three powers.
@@ -68,7 +68,7 @@ pub fn put_totals_line(out: &mut [u8], at: usize, figures: Figures) -> usize
     let q = put_pair(out, p, figures.source);
     let s = put_pair(out, q, figures.drawn);
     let t = put_pair(out, s, figures.lost);
-    put_byte(out, t, 10)
+    put_byte(out, t, b'\n')
 }
 
 // A regulator's to-name and taps.
@@ -80,5 +80,5 @@ pub fn put_tap_row(out: &mut [u8], at: usize, name: u64, taps: Taps) -> usize
     let q = put_field(out, p, taps.a);
     let r = put_field(out, q, taps.b);
     let s = put_field(out, r, taps.c);
-    put_byte(out, s, 10)
+    put_byte(out, s, b'\n')
 }

@@ -1,4 +1,5 @@
 // How many bytes each of the report's lines takes.
+// Apart from the writers of lines.rt: one function for both would need a sink that counts or writes, a trait with contracts of its own, which is no plainer.
 ghost use Rattle.std.specs.Prelude.{◌≡◌, ◌<◌, length};
 ghost use Rattle.report_lines.specs.Lines.{branch_row, node_row, pair_fields, tap_row, three_fields, totals_row};
 

@@ -1,14 +1,14 @@
 -- The last table from its rows, or from the feeder where it is missing, and the test of its taps. Assumes nothing.
-use Rattle.std.specs.Prelude.{Bool, false, not, true, List, map, ◌≡◌, ◌+◌, ℕ, ℤ, drop, get_or, length}
+use Rattle.std.specs.Prelude.{Bool, false, not, true, List, map, ◌≡◌, ◌+◌, ℕ, ℤ, drop, get_or, length, Err}
 use Rattle.std.proofs.Common.{◌∙◌, ap, subst, eq-eqb, ne_eqb}
 use Rattle.std.proofs.Math.Path.{refl, sym}
 use Rattle.std.proofs.lemmas.Bool.{not-false, not-true}
-use Rattle.answers.specs.Answers.{Outcome, refused}
+use Rattle.answers.specs.Answers.{Outcome}
 use Rattle.answers.specs.declared.Refusal.TheVariants.{ReportLayout}
 use Rattle.arrays.specs.Arrays.{branches_of}
 use Rattle.feeder.specs.Feeder.{Feeder, no_branch, no_taps, regulators, row_count, taps_on}
 use Rattle.feeder.specs.Network.{branch_array, kept}
-use Rattle.feeder.specs.declared.Taps.{Taps}
+use Rattle.feeder.specs.Phased.{Taps}
 use Rattle.report.specs.Report.{tap_rows, tap_table, unfiled_taps}
 use Rattle.report_reader.specs.Read.{FeederShown, LastIs, fitting, last_taps}
 use Rattle.tap_table.specs.FeederTaps.{fits-held, given-taps, levels-refused, own_held}
@@ -46,7 +46,7 @@ module _ (f : Feeder) (nodes : List ℕ) (branches : List (List ℤ)) (rows limi
 
   -- ---- it goes on
   module _ (n : at ≡ length s → ⊥) where
-    pub taps-no-line : begins (bytes "\n") (drop at s) ≡ false → tap_rows f s at ≡ refused ReportLayout
+    pub taps-no-line : begins (bytes "\n") (drop at s) ≡ false → tap_rows f s at ≡ Err ReportLayout
     unfolding tap_rows
     taps-no-line e = rw (ne_eqb at (length s) n, text-missing ReportLayout "\n" s at e) refl
 
@@ -61,7 +61,7 @@ module _ (f : Feeder) (nodes : List ℕ) (branches : List (List ℤ)) (rows limi
         subst (λ (x : Outcome (List Row)). TapsAre x r (length (regulators f)) names taps) (sym (filed e)) (subst (λ (k : ℕ). TapsAre (tap_table k (drop (at + 1) s)) r k names taps) z t)
 
   -- ---- the test of the taps
-  pub last_none : tap_rows f s at ≡ refused ReportLayout → last_taps f s at ≡ refused ReportLayout
+  pub last_none : tap_rows f s at ≡ Err ReportLayout → last_taps f s at ≡ Err ReportLayout
   unfolding last_taps
   last_none e = rw e refl
 

@@ -1,7 +1,7 @@
 -- What the report's reader answers, by the definitions of the report. Assumes nothing.
-use Rattle.std.specs.Prelude.{Bool, false, not, true, ◌∷◌, List, map, ◌≡◌, ◌≤◌, suc, ℕ, ℤ, get_or, length}
-use Rattle.arrays.specs.Arrays.{branches_of, pairs_of, threes_of}
-use Rattle.answers.specs.Answers.{Outcome, ◌>>=◌, ◌>>◌, good, refuse_if, refused}
+use Rattle.std.specs.Prelude.{Bool, false, not, true, ◌∷◌, List, map, ◌≡◌, ◌≤◌, suc, ℕ, ℤ, get_or, length, replicate, Ok, Err}
+use Rattle.arrays.specs.Arrays.{branches_of, no_numbers, pairs_of, threes_of}
+use Rattle.answers.specs.Answers.{Outcome, ◌>>=◌, ◌>>◌, refuse_if}
 use Rattle.answers.specs.declared.Refusal.TheVariants.{ReportLayout}
 use Rattle.answers.specs.declared.Refusal.{Refusal}
 use Rattle.integers.specs.Lists.{all, tab}
@@ -10,13 +10,12 @@ use Rattle.integers.specs.declared.Pair.{Pair}
 use Rattle.text.specs.Lines.{Row, word_of}
 use Rattle.feeder.specs.Feeder.{Feeder, branch_at, no_taps, regulators, row_count}
 use Rattle.feeder.specs.Network.{branch_array, kept}
-use Rattle.feeder.specs.declared.Taps.{Taps}
-use Rattle.feeder.specs.declared.Three.{Three}
+use Rattle.feeder.specs.Phased.{Taps, Three}
 use Rattle.equations.specs.Equations.{zero3}
 use Rattle.equations.specs.Sizes.{Within3}
 use Rattle.report.specs.Report.{Reported, reported_currents, reported_losses, reported_taps, reported_voltages, tap_rows, taps_fit, taps_given}
-use Rattle.report_tables.specs.TablesRead.{Answer}
-use Rattle.tap_table.specs.TapTable.{taps_of}
+use Rattle.report_reader.specs.declared.ReportArrays.{ReportArrays}
+use Rattle.tap_table.specs.TapTable.{Stands, taps_of}
 
 -- ---- the report: by node number its names and voltages, and by branch row its names, currents and losses, with nothing at place 0. The totals are their
 -- row's numbers, the first of them the sweeps; the names of the regulators' rows stand in the order of their table
@@ -31,18 +30,36 @@ pub record ReportRead : Type 0 where
   pub totals : List ℤ
   pub tap_names : List ℕ
 
-abbrev pub report_read : Bool → List ℕ → List (List ℤ) → List ℕ → List ℕ → List (List ℤ) → List (List ℤ) → List ℤ → List ℕ → ReportRead
-report_read ok node_names voltages from_names to_names currents losses totals tap_names = record {
+abbrev pub report_read : Bool → ReportArrays → ReportRead
+report_read ok r = record {
   ok = ok;
-  node_names = node_names;
-  voltages = threes_of voltages;
-  from_names = from_names;
-  to_names = to_names;
-  currents = threes_of currents;
-  losses = pairs_of losses;
-  totals = totals;
-  tap_names = tap_names;
+  node_names = r.node_names;
+  voltages = threes_of r.voltages;
+  from_names = r.from_names;
+  to_names = r.to_names;
+  currents = threes_of r.currents;
+  losses = pairs_of r.losses;
+  totals = r.totals;
+  tap_names = r.tap_names;
 }
+
+-- the arrays with nothing read
+unfoldable pub no_report : ReportArrays
+no_report = record {
+  node_names = replicate 201 0;
+  voltages = replicate 201 (no_numbers 6);
+  from_names = replicate 201 0;
+  to_names = replicate 201 0;
+  currents = replicate 201 (no_numbers 6);
+  losses = replicate 201 (no_numbers 2);
+  totals = no_numbers 7;
+  tap_names = replicate 201 0;
+  taps = replicate 201 (no_numbers 3);
+}
+
+-- nothing is read into r; what its totals are does not matter
+abbrev pub Unread : ReportArrays → Type 0
+Unread r = record r { totals = no_numbers 7 } ≡ no_report
 
 -- the arrays of r hold the report x of a feeder with so many branch rows
 pub record ReportHeld (rows : ℕ) (x : Reported) (r : ReportRead) : Type 0 where
@@ -67,8 +84,8 @@ pub record NoReport (y : Refusal) (r : ReportRead) : Type 0 where
 
 -- by cases of the outcome
 abbrev pub ReportIs : ℕ → Outcome Reported → ReportRead → Type 0
-ReportIs rows (good x) r = ReportHeld rows x r
-ReportIs rows (refused y) r = NoReport y r
+ReportIs rows (Ok x) r = ReportHeld rows x r
+ReportIs rows (Err y) r = NoReport y r
 
 -- the reported taps, by node number
 abbrev pub TapsHeld : Feeder → Reported → List (List ℤ) → Type 0
@@ -90,15 +107,15 @@ unfoldable pub last_taps : Feeder → List ℕ → ℕ → Outcome (List Row)
 last_taps f s at = do
   l ← tap_rows f s at
   refuse_if (not (fitting f l)) ReportLayout
-  good l
+  Ok l
 
 -- the arrays hold the names of its rows in their order, and by node number the taps that they give
 pub record LastHeld (f : Feeder) (s : List ℕ) (at : ℕ) (names : List ℕ) (taps : List Taps) : Type 0 where
   pub list : List Row
-  pub whole : tap_rows f s at ≡ good list
+  pub whole : tap_rows f s at ≡ Ok list
   pub fit : fitting f list ≡ true
   pub named : names ≡ kept 0 201 (map (λ y. word_of y 0) list)
   pub held : taps ≡ kept no_taps 201 (tab (taps_given f list) 0 (suc (row_count f)))
 
 abbrev pub LastIs : Feeder → List ℕ → ℕ → Bool → List ℕ → List Taps → Type 0
-LastIs f s at ok names taps = Answer (last_taps f s at) ok (LastHeld f s at names taps)
+LastIs f s at there names taps = Stands (last_taps f s at) there (LastHeld f s at names taps)

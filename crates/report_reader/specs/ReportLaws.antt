@@ -1,11 +1,11 @@
 -- The report from its tables: which are refused, and what the arrays hold of one that is not. Assumes nothing.
-use Rattle.std.specs.Prelude.{◌&&◌, Bool, not, [], ◌++◌, ◌∷◌, List, map, ◌≡◌, refl, ◌+◌, ◌≤◌, suc, zero, ℕ, pos, ℤ, drop, get_or, length, replicate, take}
+use Rattle.std.specs.Prelude.{◌&&◌, Bool, not, [], ◌++◌, ◌∷◌, List, map, ◌≡◌, refl, ◌+◌, ◌≤◌, suc, zero, ℕ, pos, ℤ, drop, get_or, length, replicate, take, Ok, Err}
 use Rattle.std.proofs.Math.Bool.{cond, false, true}
 use Rattle.std.proofs.Common.{◌∙◌, subst, sym, arith, length-append}
 use Rattle.std.proofs.Math.Path.{ap}
 use Rattle.std.proofs.lemmas.List.{length-map}
 use Rattle.answers.specs.AnswerLaws.{not_good, not-refused, same_good, same-refused}
-use Rattle.answers.specs.Answers.{◌>>=◌, ◌>>◌, Outcome, good, refuse_if, refused}
+use Rattle.answers.specs.Answers.{◌>>=◌, ◌>>◌, Outcome, refuse_if}
 use Rattle.answers.specs.declared.Refusal.{Refusal}
 use Rattle.answers.specs.declared.Refusal.TheVariants.{ReportLayout}
 use Rattle.integers.specs.Bools.{both, clash}
@@ -13,21 +13,22 @@ use Rattle.integers.specs.ListLaws.{all-image, all_map, all_true}
 use Rattle.integers.specs.Lists.{all, All, tab}
 use Rattle.integers.specs.Pairs.{0c, inside}
 use Rattle.arrays.specs.Arrays.{no_numbers, pair_of, pairs_of, three_of, threes_of}
-use Rattle.text.specs.Lines.{Placed, Row, nth}
+use Rattle.text.specs.Text.{Placed}
+use Rattle.text.specs.Lines.{Row, nth}
 use Rattle.feeder.specs.Feeder.{Feeder, between, no_taps, row_count, three_at}
 use Rattle.feeder.specs.Layout.{file_end}
 use Rattle.feeder.specs.Network.{kept}
 use Rattle.feeder.specs.NetworkLaws.{get_or_kept}
-use Rattle.feeder.specs.declared.Taps.{Taps}
-use Rattle.feeder.specs.declared.Three.{Three}
+use Rattle.feeder.specs.Phased.{Taps, Three}
 use Rattle.equations.specs.Equations.{zero3}
 use Rattle.equations.specs.Sizes.{Within3, within3-zero}
 use Rattle.report.specs.Report.{Reported, report_of, reported_currents, reported_losses, reported_taps, reported_voltages, table_of, tap_rows, taps_given, totals_row}
-use Rattle.report_reader.specs.Read.{LastHeld, ReportHeld, ReportIs, ReportRead, fitting, last_taps}
-use Rattle.report_tables.specs.TablesRead.{TableHeld, TableRead, TotalsHeld, column_of, row_inside, unused, unused_count}
+use Rattle.report_reader.specs.Read.{LastHeld, ReportHeld, ReportIs, ReportRead, Unread, fitting, last_taps, no_report}
+use Rattle.report_reader.specs.declared.ReportArrays.{ReportArrays}
+use Rattle.tap_table.specs.TapTable.{taps_at, taps_of}
+use Rattle.report_tables.specs.TablesRead.{Blank, Empty, TableHeld, TableRead, TotalsHeld, column_of, row_inside, unused, unused_count}
 use Rattle.report_tables.specs.RowLaws.{row_within}
 use Rattle.report_tables.specs.TableLaws.{unused-length}
-use Rattle.report_tables.specs.declared.totals.Totals.{Totals}
 
 abbrev pub node_table : ℕ → List ℕ → Outcome (Placed (List Row))
 node_table n s = table_of "node,va_re,va_im,vb_re,vb_im,vc_re,vc_im\n" n 1 6 s
@@ -38,16 +39,16 @@ branch_table n s = table_of "from,to,ia_re,ia_im,ib_re,ib_im,ic_re,ic_im,loss_p,
 -- ---- step by step
 -- the tests behind the tables, of which that of the taps is the last; all refuse the same
 abbrev tests : Bool → Bool → Bool → Bool → Reported → Outcome Reported
-tests a b c d x = refuse_if (not a) ReportLayout >> (refuse_if (not b) ReportLayout >> (refuse_if (not c) ReportLayout >> (refuse_if (not d) ReportLayout >> good x)))
+tests a b c d x = refuse_if (not a) ReportLayout >> (refuse_if (not b) ReportLayout >> (refuse_if (not c) ReportLayout >> (refuse_if (not d) ReportLayout >> Ok x)))
 
-four-tests : (a b c d : Bool) (x : Reported) → d ≡ true → tests a b c d x ≡ cond (a && (b && c)) (good x) (refused ReportLayout)
+four-tests : (a b c d : Bool) (x : Reported) → d ≡ true → tests a b c d x ≡ cond (a && (b && c)) (Ok x) (Err ReportLayout)
 four-tests true true true true x e = refl
 four-tests true true true false x e = clash false e refl
 four-tests true true false d x e = refl
 four-tests true false c d x e = refl
 four-tests false b c d x e = refl
 
-last-refuses : (a b c d : Bool) (x : Reported) → d ≡ false → tests a b c d x ≡ refused ReportLayout
+last-refuses : (a b c d : Bool) (x : Reported) → d ≡ false → tests a b c d x ≡ Err ReportLayout
 last-refuses true true true true x e = clash true refl e
 last-refuses true true true false x e = refl
 last-refuses true true false d x e = refl
@@ -55,31 +56,31 @@ last-refuses true false c d x e = refl
 last-refuses false b c d x e = refl
 
 -- what is refused before its test, or by it
-taps-refuse : (o : Outcome (List Row)) (g : List Row → Bool) (a b c : Bool) (x : List Row → Reported) → (o >>= λ l. refuse_if (not (g l)) ReportLayout >> good l) ≡ refused ReportLayout
-    → (o >>= λ l. tests a b c (g l) (x l)) ≡ refused ReportLayout
-taps-refuse (refused r) g a b c x e = ap (λ (y : Refusal). refused y) (same-refused {X = List Row} r ReportLayout e)
-taps-refuse (good l) g a b c x e = last-refuses a b c (g l) (x l) (go (g l) e)
+taps-refuse : (o : Outcome (List Row)) (g : List Row → Bool) (a b c : Bool) (x : List Row → Reported) → (o >>= λ l. refuse_if (not (g l)) ReportLayout >> Ok l) ≡ Err ReportLayout
+    → (o >>= λ l. tests a b c (g l) (x l)) ≡ Err ReportLayout
+taps-refuse (Err r) g a b c x e = ap (λ (y : Refusal). Err y) (same-refused {X = List Row} r ReportLayout e)
+taps-refuse (Ok l) g a b c x e = last-refuses a b c (g l) (x l) (go (g l) e)
   where
-    go : (d : Bool) → (refuse_if (not d) ReportLayout >> good l) ≡ refused ReportLayout → d ≡ false
+    go : (d : Bool) → (refuse_if (not d) ReportLayout >> Ok l) ≡ Err ReportLayout → d ≡ false
     go true e = not_good l ReportLayout e
     go false e = refl
 
 module _ (f : Feeder) (s : List ℕ) where
-  pub no-nodes : node_table (suc (row_count f)) s ≡ refused ReportLayout → report_of f s ≡ refused ReportLayout
+  pub no-nodes : node_table (suc (row_count f)) s ≡ Err ReportLayout → report_of f s ≡ Err ReportLayout
   unfolding report_of
   no-nodes e = rw e
 
-  module _ (nodes : List Row) (p : ℕ) (e : node_table (suc (row_count f)) s ≡ good (nodes, p)) where
-    pub no-branches : branch_table (row_count f) (drop p s) ≡ refused ReportLayout → report_of f s ≡ refused ReportLayout
+  module _ (nodes : List Row) (p : ℕ) (e : node_table (suc (row_count f)) s ≡ Ok (nodes, p)) where
+    pub no-branches : branch_table (row_count f) (drop p s) ≡ Err ReportLayout → report_of f s ≡ Err ReportLayout
     unfolding report_of
     no-branches g = rw (e, g)
 
-    module _ (branches : List Row) (q : ℕ) (g : branch_table (row_count f) (drop p s) ≡ good (branches, q)) where
-      pub no-totals : totals_row (drop q (drop p s)) ≡ refused ReportLayout → report_of f s ≡ refused ReportLayout
+    module _ (branches : List Row) (q : ℕ) (g : branch_table (row_count f) (drop p s) ≡ Ok (branches, q)) where
+      pub no-totals : totals_row (drop q (drop p s)) ≡ Err ReportLayout → report_of f s ≡ Err ReportLayout
       unfolding report_of
       no-totals h = rw (e, g, h)
 
-      module _ (x : Row) (n : ℕ) (h : totals_row (drop q (drop p s)) ≡ good (x, n)) where
+      module _ (x : Row) (n : ℕ) (h : totals_row (drop q (drop p s)) ≡ Ok (x, n)) where
         abbrev a : Bool
         a = all (λ r. all (inside 2000000) r.values) nodes
 
@@ -92,12 +93,12 @@ module _ (f : Feeder) (s : List ℕ) where
         abbrev made_of : List Row → Reported
         made_of l = record { nodes = nodes; branches = branches; totals = x.values; filed = not (file_end (drop q (drop p s)) n); taps = l }
 
-        pub no-taps : last_taps f (drop q (drop p s)) n ≡ refused ReportLayout → report_of f s ≡ refused ReportLayout
+        pub no-taps : last_taps f (drop q (drop p s)) n ≡ Err ReportLayout → report_of f s ≡ Err ReportLayout
         unfolding report_of last_taps
         no-taps k = rw (e, g, h) (taps-refuse (tap_rows f (drop q (drop p s)) n) (fitting f) a b c made_of k)
 
-        pub tested : (l : List Row) → tap_rows f (drop q (drop p s)) n ≡ good l → fitting f l ≡ true →
-            report_of f s ≡ cond (all (row_inside false) nodes && (all (row_inside true) branches && c)) (good (made_of l)) (refused ReportLayout)
+        pub tested : (l : List Row) → tap_rows f (drop q (drop p s)) n ≡ Ok l → fitting f l ≡ true →
+            report_of f s ≡ cond (all (row_inside false) nodes && (all (row_inside true) branches && c)) (Ok (made_of l)) (Err ReportLayout)
         unfolding report_of
         tested l k t = rw (e, g, h, k) (four-tests a b c (fitting f l) (made_of l) t)
 
@@ -122,24 +123,24 @@ column-within branch l cells e h t k =
 
 -- ---- the answer
 -- the tests behind the reading
-abbrev pub accepts : ℕ → TableRead → TableRead → Totals → Bool
-accepts limit nodes branches last = nodes.inside && (branches.inside && between (pos 1) (pos limit) (nth last.values 1))
+abbrev pub accepts : ℕ → TableRead → TableRead → List ℤ → Bool
+accepts limit nodes branches totals = nodes.inside && (branches.inside && between (pos 1) (pos limit) (nth totals 1))
 
-pub not-read : (rows : ℕ) (o : Outcome Reported) (r : ReportRead) → r.ok ≡ false → o ≡ refused ReportLayout → ReportIs rows o r
+pub not-read : (rows : ℕ) (o : Outcome Reported) (r : ReportRead) → r.ok ≡ false → o ≡ Err ReportLayout → ReportIs rows o r
 not-read rows o r h e = subst (λ (x : Outcome Reported). ReportIs rows x r) (sym e) (record { ok = h; layout = refl })
 
-module _ (f : Feeder) (s : List ℕ) (nodes branches : TableRead) (last : Totals) (tap_names : List ℕ) (taps : List Taps)
+module _ (f : Feeder) (s : List ℕ) (nodes branches : TableRead) (totals : List ℤ) (end : ℕ) (tap_names : List ℕ) (taps : List Taps)
     (n : TableHeld false (suc (row_count f)) s (node_table (suc (row_count f)) s) nodes)
     (b : TableHeld true (row_count f) (drop nodes.next s) (branch_table (row_count f) (drop nodes.next s)) branches)
-    (l : let rest = drop branches.next (drop nodes.next s) in TotalsHeld rest (totals_row rest) last)
-    (t : LastHeld f (drop branches.next (drop nodes.next s)) last.next tap_names taps) where
+    (l : let rest = drop branches.next (drop nodes.next s) in TotalsHeld rest (totals_row rest) totals end)
+    (t : LastHeld f (drop branches.next (drop nodes.next s)) end tap_names taps) where
   abbrev report : Reported
-  report = record { nodes = n.list; branches = b.list; totals = last.values; filed = not (file_end (drop branches.next (drop nodes.next s)) last.next); taps = t.list }
+  report = record { nodes = n.list; branches = b.list; totals = totals; filed = not (file_end (drop branches.next (drop nodes.next s)) end); taps = t.list }
 
-  by-test : report_of f s ≡ cond (accepts f.limit nodes branches last) (good report) (refused ReportLayout)
+  by-test : report_of f s ≡ cond (accepts f.limit nodes branches totals) (Ok report) (Err ReportLayout)
   by-test =
-      tested f s n.list nodes.next n.whole b.list branches.next b.whole _ last.next l.whole t.list t.whole t.fit
-      ∙ sym (λ i. cond (n.held.inside i && (b.held.inside i && between (pos 1) (pos f.limit) (nth last.values 1))) (good report) (refused ReportLayout))
+      tested f s n.list nodes.next n.whole b.list branches.next b.whole _ end l.whole t.list t.whole t.fit
+      ∙ sym (λ i. cond (n.held.inside i && (b.held.inside i && between (pos 1) (pos f.limit) (nth totals 1))) (Ok report) (Err ReportLayout))
 
   -- the arrays of the tables, and the numbers of the row of the totals
   abbrev made : Bool → ReportRead
@@ -151,15 +152,15 @@ module _ (f : Feeder) (s : List ℕ) (nodes branches : TableRead) (last : Totals
     to_names = branches.second;
     currents = branches.threes;
     losses = branches.pairs;
-    totals = last.values;
+    totals = totals;
     tap_names = tap_names;
   }
 
-  held : row_count f ≤ 200 → accepts f.limit nodes branches last ≡ true → ReportHeld (row_count f) report (made true)
+  held : row_count f ≤ 200 → accepts f.limit nodes branches totals ≡ true → ReportHeld (row_count f) report (made true)
   unfolding reported_currents reported_losses reported_voltages
   held few e =
-      let d = both nodes.inside (branches.inside && between (pos 1) (pos f.limit) (nth last.values 1)) e in
-      let u = both branches.inside (between (pos 1) (pos f.limit) (nth last.values 1)) d.1 in
+      let d = both nodes.inside (branches.inside && between (pos 1) (pos f.limit) (nth totals 1)) e in
+      let u = both branches.inside (between (pos 1) (pos f.limit) (nth totals 1)) d.1 in
       record {
         ok = refl;
         node_count = n.counted;
@@ -178,17 +179,17 @@ module _ (f : Feeder) (s : List ℕ) (nodes branches : TableRead) (last : Totals
       }
 
   -- what the tests say is what the reader answers
-  pub by_tests : (ok : Bool) → row_count f ≤ 200 → accepts f.limit nodes branches last ≡ ok → ReportIs (row_count f) (report_of f s) (made ok)
+  pub by_tests : (ok : Bool) → row_count f ≤ 200 → accepts f.limit nodes branches totals ≡ ok → ReportIs (row_count f) (report_of f s) (made ok)
   by_tests true few e =
-      subst (λ (x : Outcome Reported). ReportIs (row_count f) x (made true)) (sym (by-test ∙ ap (λ (t : Bool). cond t (good report) (refused ReportLayout)) e)) (held few e)
-  by_tests false few e = not-read (row_count f) (report_of f s) (made false) refl (by-test ∙ ap (λ (t : Bool). cond t (good report) (refused ReportLayout)) e)
+      subst (λ (x : Outcome Reported). ReportIs (row_count f) x (made true)) (sym (by-test ∙ ap (λ (t : Bool). cond t (Ok report) (Err ReportLayout)) e)) (held few e)
+  by_tests false few e = not-read (row_count f) (report_of f s) (made false) refl (by-test ∙ ap (λ (t : Bool). cond t (Ok report) (Err ReportLayout)) e)
 
   -- the taps of the report that was read
-  pub taps-read : (x : Reported) → report_of f s ≡ good x → taps ≡ kept no_taps 201 (reported_taps f x)
+  pub taps-read : (x : Reported) → report_of f s ≡ Ok x → taps ≡ kept no_taps 201 (reported_taps f x)
   unfolding reported_taps
-  taps-read x e = go (accepts f.limit nodes branches last) (sym by-test ∙ e)
+  taps-read x e = go (accepts f.limit nodes branches totals) (sym by-test ∙ e)
     where
-      go : (d : Bool) → cond d (good report) (refused ReportLayout) ≡ good x → taps ≡ kept no_taps 201 (tab (taps_given f x.taps) 0 (suc (row_count f)))
+      go : (d : Bool) → cond d (Ok report) (Err ReportLayout) ≡ Ok x → taps ≡ kept no_taps 201 (tab (taps_given f x.taps) 0 (suc (row_count f)))
       go true r = t.held ∙ ap (λ (y : Reported). kept no_taps 201 (tab (taps_given f y.taps) 0 (suc (row_count f)))) (same_good report x r)
       go false r = not-refused ReportLayout x r
 
@@ -197,8 +198,39 @@ map-replicate : {X Y : Type 0} (f : X → Y) (n : ℕ) (d : X) → map f (replic
 map-replicate f zero d = refl
 map-replicate f (suc n) d = ap (λ (l : List _). f d ∷ l) (map-replicate f n d)
 
-pub made-threes : (l : List (List ℤ)) → l ≡ replicate 201 (no_numbers 6) → threes_of l ≡ replicate 201 zero3
+made-threes : (l : List (List ℤ)) → l ≡ replicate 201 (no_numbers 6) → threes_of l ≡ replicate 201 zero3
 made-threes l e = ap threes_of e ∙ map-replicate three_of 201 (no_numbers 6)
 
-pub made-pairs : (l : List (List ℤ)) → l ≡ replicate 201 (no_numbers 2) → pairs_of l ≡ replicate 201 0c
+made-pairs : (l : List (List ℤ)) → l ≡ replicate 201 (no_numbers 2) → pairs_of l ≡ replicate 201 0c
 made-pairs l e = ap pairs_of e ∙ map-replicate pair_of 201 (no_numbers 2)
+
+-- ---- the arrays with nothing read: what their readers ask of them
+pub unread : {r : ReportArrays} → r ≡ no_report → Unread r
+unfolding no_report
+unread e = ap (λ (x : ReportArrays). record x { totals = no_numbers 7 }) e
+
+module _ (r : ReportArrays) (e : Unread r) where
+  pub nodes-empty : Empty r.node_names r.to_names r.voltages r.losses
+  unfolding no_report
+  nodes-empty = record {
+    first_made = ap (λ (x : ReportArrays). x.node_names) e;
+    threes-made = made-threes _ (ap (λ (x : ReportArrays). x.voltages) e);
+    blank = (ap (λ (x : ReportArrays). x.to_names) e, made-pairs _ (ap (λ (x : ReportArrays). x.losses) e));
+  }
+
+  -- where the node table has stored nothing in the other two
+  pub branches-empty : (second : List ℕ) (pairs : List (List ℤ)) → Blank second (pairs_of pairs) → Empty r.from_names second r.currents pairs
+  unfolding no_report
+  branches-empty second pairs h = record {
+    first_made = ap (λ (x : ReportArrays). x.from_names) e;
+    threes-made = made-threes _ (ap (λ (x : ReportArrays). x.currents) e);
+    blank = h;
+  }
+
+  pub tap-names-empty : r.tap_names ≡ replicate 201 0
+  unfolding no_report
+  tap-names-empty = ap (λ (x : ReportArrays). x.tap_names) e
+
+  pub taps-empty : taps_of r.taps ≡ replicate 201 no_taps
+  unfolding no_report
+  taps-empty = ap (λ (x : ReportArrays). taps_of x.taps) e ∙ map-replicate taps_at 201 (no_numbers 3)

@@ -1,22 +1,54 @@
 // The report's text read back (50). specs/Read.antt says what each reader answers.
 #![tactic(auto)]
 
-ghost use Rattle.std.specs.Prelude.{◌≡◌, ◌&&◌, ◌≤◌, pos, replicate};
-ghost use Rattle.arrays.specs.Arrays.{no_numbers};
-ghost use Rattle.answers.specs.Answers.{good};
-ghost use Rattle.feeder.specs.Feeder.{Feeder, between, no_taps, row_count};
+ghost use Rattle.std.specs.Prelude.{◌≡◌, ◌&&◌, ◌≤◌, pos};
+ghost use Rattle.feeder.specs.Feeder.{Feeder, between, row_count};
 ghost use Rattle.report.specs.Report.{Reported, report_of};
-ghost use Rattle.report_reader.specs.Read.{FeederShown, ReportIs, TapsHeld, report_read};
-ghost use Rattle.tap_table.specs.TapTable.{taps_of};
+ghost use Rattle.text.specs.Lines.{nth};
+ghost use Rattle.report_reader.specs.Read.{FeederShown, ReportIs, TapsHeld, Unread, no_report, report_read};
 
 use crate::last::read_taps;
 use arrays::{Branches, Names, Pairs, Threes};
 use integers::whole;
 use report_tables::rows::read_table;
-use report_tables::totals::read_totals;
+use report_tables::totals::{Totals, read_totals};
 use tap_table::taps::TapRows;
 
 pub mod last;
+
+// The arrays that a report is read into: by node number its names and voltages, and by branch row its names, currents and losses. The totals are their row's
+// numbers. The names of the last table stand in its order, and its taps by node number.
+#[derive(Clone, Copy)]
+pub struct ReportArrays {
+    pub node_names: Names,
+    pub voltages: Threes,
+    pub from_names: Names,
+    pub to_names: Names,
+    pub currents: Threes,
+    pub losses: Pairs,
+    pub totals: Totals,
+    pub tap_names: Names,
+    pub taps: TapRows,
+}
+
+impl ReportArrays {
+    // With nothing read.
+    pub fn empty() -> ReportArrays
+        ensures { result ≡ no_report }
+    {
+        ReportArrays {
+            node_names: [0; 201],
+            voltages: [[0; 6]; 201],
+            from_names: [0; 201],
+            to_names: [0; 201],
+            currents: [[0; 6]; 201],
+            losses: [[0; 2]; 201],
+            totals: [0; 7],
+            tap_names: [0; 201],
+            taps: [[0; 3]; 201],
+        }
+    }
+}
 
 // Whether the number of sweeps is 1 to the limit.
 fn sweeps_in(sweeps: i64, limit: usize) -> bool
@@ -27,89 +59,72 @@ fn sweeps_in(sweeps: i64, limit: usize) -> bool
     1 <= sweeps && sweeps <= most
 }
 
-// The tests behind the reading: voltages, currents, sweeps.
-fn accepted(nodes: bool, branches: bool, sweeps: i64, limit: usize) -> bool
+// The tests behind the reading: voltages, currents, and the first of the totals, the sweeps.
+fn accepted(nodes: bool, branches: bool, totals: &Totals, limit: usize) -> bool
     requires { limit ≤ 100 }
-    ensures { result ≡ (nodes && (branches && between (pos 1) (pos limit) sweeps)) }
+    ensures { result ≡ (nodes && (branches && between (pos 1) (pos limit) (nth totals.now 1))) }
 {
-    if !nodes {
-        return false;
-    }
-    if !branches {
-        return false;
-    }
-    sweeps_in(sweeps, limit)
+    nodes && branches && sweeps_in(totals[0], limit)
 }
 
 // The report of a feeder with these nodes and branches and that limit of sweeps, where this answers true. It may have any length and any bytes.
-// The names of the last table stand in its order, and its taps by node number.
+// A bool and not an Option, since nothing is handed back but whether the report was read.
 pub fn read_report(
     report: &[u8],
     nodes: &Names,
     branches: &Branches,
     rows: usize,
     limit: usize,
-    node_names: &mut Names,
-    voltages: &mut Threes,
-    from_names: &mut Names,
-    to_names: &mut Names,
-    currents: &mut Threes,
-    losses: &mut Pairs,
-    totals: &mut [i64; 7],
-    tap_names: &mut Names,
-    taps: &mut TapRows,
+    read: &mut ReportArrays,
 ) -> bool
     requires rows_bound { rows ≤ 200 }
     requires limit_bound { limit ≤ 100 }
-    requires node_names_value { node_names.old ≡ replicate 201 0 }
-    requires voltages_value { voltages.old ≡ replicate 201 (no_numbers 6) }
-    requires from_names_value { from_names.old ≡ replicate 201 0 }
-    requires to_names_value { to_names.old ≡ replicate 201 0 }
-    requires currents_value { currents.old ≡ replicate 201 (no_numbers 6) }
-    requires losses_value { losses.old ≡ replicate 201 (no_numbers 2) }
-    requires tap_names_value { tap_names.old ≡ replicate 201 0 }
-    requires taps_value { taps_of taps.old ≡ replicate 201 no_taps }
-    ensures held { (f : Feeder) → FeederShown f nodes.now branches.now rows limit → ReportIs (row_count f) (report_of f report.now) (report_read result node_names.new voltages.new from_names.new to_names.new currents.new losses.new totals.new tap_names.new) }
-    ensures taps { (f : Feeder) (x : Reported) → FeederShown f nodes.now branches.now rows limit → report_of f report.now ≡ good x → TapsHeld f x taps.new }
+    requires unread { Unread read.old }
+    ensures held { (f : Feeder) → FeederShown f nodes.now branches.now rows limit → ReportIs (row_count f) (report_of f report.now) (report_read result read.new) }
+    ensures taps { (f : Feeder) (x : Reported) → FeederShown f nodes.now branches.now rows limit → report_of f report.now ≡ Ok x → TapsHeld f x read.new.taps }
 {
-    let node_table = read_table(
+    let Some(node_table) = read_table(
         report,
         b"node,va_re,va_im,vb_re,vb_im,vc_re,vc_im\n",
         rows + 1,
         false,
-        node_names,
-        to_names,
-        voltages,
-        losses,
-    );
-    if !node_table.ok {
+        &mut read.node_names,
+        &mut read.to_names,
+        &mut read.voltages,
+        &mut read.losses,
+    ) else {
         return false;
-    }
+    };
     let p = node_table.next;
-    let branch_table = read_table(
+    let Some(branch_table) = read_table(
         &report[p..],
         b"from,to,ia_re,ia_im,ib_re,ib_im,ic_re,ic_im,loss_p,loss_q\n",
         rows,
         true,
-        from_names,
-        to_names,
-        currents,
-        losses,
-    );
-    if !branch_table.ok {
+        &mut read.from_names,
+        &mut read.to_names,
+        &mut read.currents,
+        &mut read.losses,
+    ) else {
         return false;
-    }
+    };
     let q = p + branch_table.next;
     let rest = &report[q..];
-    let last = read_totals(rest);
-    if !last.ok {
+    let Some(last) = read_totals(rest) else {
+        return false;
+    };
+    let totals = last.0;
+    read.totals = totals;
+    if !read_taps(
+        rest,
+        last.1,
+        nodes,
+        branches,
+        rows,
+        &mut read.tap_names,
+        &mut read.taps,
+    ) {
         return false;
     }
-    let values = last.values;
-    let sweeps = values[0];
-    *totals = values;
-    if !read_taps(rest, last.next, nodes, branches, rows, tap_names, taps) {
-        return false;
-    }
-    accepted(node_table.inside, branch_table.inside, sweeps, limit)
+    accepted(node_table.inside, branch_table.inside, &totals, limit)
 }

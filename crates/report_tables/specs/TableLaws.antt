@@ -1,5 +1,5 @@
 -- A table's rows, read one after the other into arrays, and the lines around them. Assumes nothing.
-use Rattle.std.specs.Prelude.{Bool, ◌&&◌, false, true, ◌≡◌, refl, ℤ, drop, length, replicate, set}
+use Rattle.std.specs.Prelude.{Bool, ◌&&◌, false, true, ◌≡◌, refl, ℤ, drop, length, replicate, set, Ok, Err}
 use Rattle.std.proofs.Math.Bool.{and_assoc, and-true}
 use mathlib.Core.List.{List, [], ◌++◌, ◌∷◌, append_assoc, append-nil, map, map-append}
 use Rattle.std.proofs.Common.{◌∙◌, ap, sym, not-suc-le-zero, length-append}
@@ -7,7 +7,7 @@ use Prim.Native.Nat.{◌+◌, ◌-◌, ◌<◌, ◌≤◌, suc, zero, ℕ}
 use Prim.Native.String.{String}
 use native.Mathlib.Omega.{arith}
 use Rattle.std.proofs.lemmas.List.{length-map}
-use Rattle.answers.specs.Answers.{Outcome, ◌>>=◌, good, refused}
+use Rattle.answers.specs.Answers.{Outcome, ◌>>=◌}
 use Rattle.answers.specs.declared.Refusal.TheVariants.{ReportLayout}
 use Rattle.arrays.specs.ArrayLaws.{blank-kept}
 use Rattle.arrays.specs.Arrays.{pairs_of, threes_of}
@@ -15,11 +15,11 @@ use Rattle.integers.specs.Lists.{all}
 use Rattle.integers.specs.Pairs.{0c}
 use Rattle.integers.specs.declared.Pair.{Pair}
 use Rattle.text.specs.LineLaws.{begins-within, text-missing, text-stands}
-use Rattle.text.specs.Lines.{Placed, Row, row, text}
-use Rattle.text.specs.Text.{begins, bytes}
+use Rattle.text.specs.Lines.{Row, row, text}
+use Rattle.text.specs.Text.{begins, bytes, Placed}
 use Rattle.feeder.specs.Network.{kept}
 use Rattle.feeder.specs.NetworkLaws.{kept_next}
-use Rattle.feeder.specs.declared.Three.{Three}
+use Rattle.feeder.specs.Phased.{Three}
 use Rattle.equations.specs.Equations.{zero3}
 use Rattle.report.specs.Report.{rows_just, table_of}
 use Rattle.report_tables.specs.TablesRead.{Blank, Empty, RowHeld, RowsHeld, TableHeld, TableRead, column_of, name_count, row_at, row_inside, table_read, unused, unused_count, value_count}
@@ -27,27 +27,27 @@ use Rattle.report_tables.specs.declared.fields.RowRead.{RowRead}
 
 -- ---- the rows read so far, in front of those that come
 abbrev pub behind : List Row → Outcome (Placed (List Row)) → Outcome (Placed (List Row))
-behind l o = o >>= λ y. good (l ++ y.0, y.1)
+behind l o = o >>= λ y. Ok (l ++ y.0, y.1)
 
 pub behind-none : (o : Outcome (Placed (List Row))) → behind [] o ≡ o
-behind-none (good x) = refl
-behind-none (refused r) = refl
+behind-none (Ok x) = refl
+behind-none (Err r) = refl
 
-behind-cons : (l : List Row) (x : Row) (o : Outcome (Placed (List Row))) → behind l (o >>= λ y. good (x ∷ y.0, y.1)) ≡ behind (l ++ (x ∷ [])) o
-behind-cons l x (good y) = ap (λ (m : List Row). good (m, y.1)) (sym (append_assoc l (x ∷ []) y.0))
-behind-cons l x (refused r) = refl
+behind-cons : (l : List Row) (x : Row) (o : Outcome (Placed (List Row))) → behind l (o >>= λ y. Ok (x ∷ y.0, y.1)) ≡ behind (l ++ (x ∷ [])) o
+behind-cons l x (Ok y) = ap (λ (m : List Row). Ok (m, y.1)) (sym (append_assoc l (x ∷ []) y.0))
+behind-cons l x (Err r) = refl
 
 module _ (m n : ℕ) (s : List ℕ) (at : ℕ) where
-  pub just-none : (l : List Row) → behind l (rows_just 0 m n s at) ≡ good (l, at)
+  pub just-none : (l : List Row) → behind l (rows_just 0 m n s at) ≡ Ok (l, at)
   unfolding rows_just
   just-none l = simp append-nil
 
-  pub just-next : (l : List Row) (k : ℕ) (x : Row) (p : ℕ) → 0 < k → row ReportLayout m n s at ≡ good (x, p) → behind l (rows_just k m n s at) ≡ behind (l ++ (x ∷ [])) (rows_just (k - 1) m n s p)
+  pub just-next : (l : List Row) (k : ℕ) (x : Row) (p : ℕ) → 0 < k → row ReportLayout m n s at ≡ Ok (x, p) → behind l (rows_just k m n s at) ≡ behind (l ++ (x ∷ [])) (rows_just (k - 1) m n s p)
   unfolding rows_just
   just-next l zero x p h e = absurd (not-suc-le-zero h)
   just-next l (suc k) x p h e = let d : suc k - 1 ≡ k = omega arith in rw (e, d) (behind-cons l x (rows_just k m n s p))
 
-  pub just-stop : (l : List Row) (k : ℕ) → 0 < k → row ReportLayout m n s at ≡ refused ReportLayout → behind l (rows_just k m n s at) ≡ refused ReportLayout
+  pub just-stop : (l : List Row) (k : ℕ) → 0 < k → row ReportLayout m n s at ≡ Err ReportLayout → behind l (rows_just k m n s at) ≡ Err ReportLayout
   unfolding rows_just
   just-stop l zero h e = absurd (not-suc-le-zero h)
   just-stop l (suc k) h e = rw e
@@ -96,17 +96,15 @@ pub record Going (branch : Bool) (s : List ℕ) (from count last : ℕ) (t : Tab
   pub ends : last ≡ unused_count branch + count
   pub room : last ≤ 201
   pub before : k ≤ last
-  pub ok : t.ok ≡ true
   pub held : RowsHeld branch list t
   pub within : t.next ≤ length s
   pub blank : branch ≡ false → Blank t.second t.pairs
 
 -- the table with the row x more, at place k, and whether all rows with it are in their limit
-abbrev pub added : TableRead → ℕ → RowRead → List Three → List Pair → Bool → TableRead
-added t k x threes pairs inside =
+abbrev pub added : TableRead → ℕ → RowRead → ℕ → List Three → List Pair → Bool → TableRead
+added t k x next threes pairs inside =
     record {
-      ok = t.ok;
-      next = x.next;
+      next = next;
       first = set t.first k x.first;
       second = set t.second k x.second;
       threes = threes;
@@ -117,7 +115,7 @@ added t k x threes pairs inside =
 module _ (branch : Bool) (s : List ℕ) (from count last : ℕ) where
   module _ (first second : List ℕ) (threes pairs : List (List ℤ)) where
     pub going_start : (k : ℕ) → Empty first second threes pairs → k ≡ unused_count branch → last ≡ k + count → last ≤ 201 → from ≤ length s →
-        Going branch s from count last (table_read (record { ok = true; next = from; inside = true }) first second threes pairs) k
+        Going branch s from count last (table_read (record { next = from; inside = true }) first second threes pairs) k
     going_start k e u d r h =
         let z : last - k ≡ count = omega arith in
         record {
@@ -127,7 +125,6 @@ module _ (branch : Bool) (s : List ℕ) (from count last : ℕ) where
           ends = omega arith;
           room = r;
           before = omega arith;
-          ok = refl;
           held = record {
             first = column-start 0 branch first e.first_made;
             second = column-start 0 branch second e.blank.0;
@@ -152,23 +149,22 @@ module _ (branch : Bool) (s : List ℕ) (from count last : ℕ) where
           blank = g.blank;
         }
 
-    pub going-stop : k < last → row_at branch s t.next ≡ refused ReportLayout → rows_just count (name_count branch) (value_count branch) s from ≡ refused ReportLayout
+    pub going-stop : k < last → row_at branch s t.next ≡ Err ReportLayout → rows_just count (name_count branch) (value_count branch) s from ≡ Err ReportLayout
     going-stop h e = g.whole ∙ just-stop (name_count branch) (value_count branch) s t.next g.list (last - k) (omega arith) e
 
-    pub going_next : (x : RowRead) (threes : List Three) (pairs : List Pair) (inside : Bool) → k < last → RowHeld branch s t.next x →
-        threes ≡ set t.threes k x.three → pairs ≡ set t.pairs k x.pair → inside ≡ (t.inside && x.inside) → Going branch s from count last (added t k x threes pairs inside) (k + 1)
-    going_next x threes pairs inside h w a b e =
+    pub going_next : (x : RowRead) (next : ℕ) (threes : List Three) (pairs : List Pair) (inside : Bool) → k < last → RowHeld branch s t.next x next →
+        threes ≡ set t.threes k x.three → pairs ≡ set t.pairs k x.pair → inside ≡ (t.inside && x.inside) → Going branch s from count last (added t k x next threes pairs inside) (k + 1)
+    going_next x next threes pairs inside h w a b e =
         let z : last - k - 1 ≡ last - (k + 1) = omega arith in
         let q : k < 201 = omega arith in
         let l = g.list in
         record {
           list = l ++ (w.read ∷ []);
-          whole = g.whole ∙ just-next (name_count branch) (value_count branch) s t.next l (last - k) w.read x.next (omega arith) w.whole ∙ simp z;
+          whole = g.whole ∙ just-next (name_count branch) (value_count branch) s t.next l (last - k) w.read next (omega arith) w.whole ∙ simp z;
           counted = simp length-append (omega arith);
           ends = g.ends;
           room = g.room;
           before = omega arith;
-          ok = g.ok;
           held = record {
             first = column-next 0 branch _ l w.read k t.first x.first g.counted q g.held.first w.first;
             second = column-next 0 branch _ l w.read k t.second x.second g.counted q g.held.second w.second;
@@ -182,30 +178,30 @@ module _ (branch : Bool) (s : List ℕ) (from count last : ℕ) where
 
 -- ---- the line of names in front of the rows, and the empty line behind them
 module _ (name : String) (n a b : ℕ) (s : List ℕ) where
-  pub table-no-names : begins (bytes name) s ≡ false → table_of name n a b s ≡ refused ReportLayout
+  pub table-no-names : begins (bytes name) s ≡ false → table_of name n a b s ≡ Err ReportLayout
   unfolding table_of
   table-no-names e = rw (text-missing ReportLayout name s 0 e)
 
   module _ (e : begins (bytes name) s ≡ true) where
-    from_zero : text ReportLayout name s 0 ≡ good (length (bytes name))
-    from_zero = let z : 0 + length (bytes name) ≡ length (bytes name) = omega arith in text-stands ReportLayout name s 0 e ∙ ap (λ (p : ℕ). good p) z
+    from_zero : text ReportLayout name s 0 ≡ Ok (length (bytes name))
+    from_zero = let z : 0 + length (bytes name) ≡ length (bytes name) = omega arith in text-stands ReportLayout name s 0 e ∙ ap (λ (p : ℕ). Ok p) z
 
-    pub table-no-rows : rows_just n a b s (length (bytes name)) ≡ refused ReportLayout → table_of name n a b s ≡ refused ReportLayout
+    pub table-no-rows : rows_just n a b s (length (bytes name)) ≡ Err ReportLayout → table_of name n a b s ≡ Err ReportLayout
     unfolding table_of
     table-no-rows f = rw (from_zero, f)
 
-    module _ (l : List Row) (p : ℕ) (f : rows_just n a b s (length (bytes name)) ≡ good (l, p)) where
-      pub table-no-end : begins (bytes "\n") (drop p s) ≡ false → table_of name n a b s ≡ refused ReportLayout
+    module _ (l : List Row) (p : ℕ) (f : rows_just n a b s (length (bytes name)) ≡ Ok (l, p)) where
+      pub table-no-end : begins (bytes "\n") (drop p s) ≡ false → table_of name n a b s ≡ Err ReportLayout
       unfolding table_of
       table-no-end d = rw (from_zero, f, text-missing ReportLayout "\n" s p d)
 
-      pub table-whole : begins (bytes "\n") (drop p s) ≡ true → table_of name n a b s ≡ good (l, p + 1)
+      pub table-whole : begins (bytes "\n") (drop p s) ≡ true → table_of name n a b s ≡ Ok (l, p + 1)
       unfolding table_of bytes
       table-whole d = rw (from_zero, f, text-stands ReportLayout "\n" s p d)
 
 -- the table behind its empty line
 abbrev pub ended : TableRead → TableRead
-ended t = record { ok = t.ok; next = t.next + 1; first = t.first; second = t.second; threes = t.threes; pairs = t.pairs; inside = t.inside }
+ended t = record { next = t.next + 1; first = t.first; second = t.second; threes = t.threes; pairs = t.pairs; inside = t.inside }
 
 pub table-held : (branch : Bool) (name : String) (n : ℕ) (s : List ℕ) (t : TableRead) → begins (bytes name) s ≡ true → TableHeld branch n s (rows_just n (name_count branch) (value_count branch) s (length (bytes name))) t →
     begins (bytes "\n") (drop t.next s) ≡ true → TableHeld branch n s (table_of name n (name_count branch) (value_count branch) s) (ended t)

@@ -6,16 +6,14 @@ ghost use Rattle.report_tables.specs.TablesRead.{RowIs, pair_from, within3};
 use feeder::Three;
 use integers::Pair;
 use integers::pairs::within;
-use text::Word;
-use text::lines::{Next, read_numbers};
+use text::Placed;
+use text::lines::read_numbers;
 use text::read::read_name;
 
-// Where `ok`, a row and the place behind it: its names, its voltages or currents, the loss behind those, and whether
-// the voltages or currents are in their limit. A node row has one name and no loss.
+// A row: its names, its voltages or currents, the loss behind those, and whether the voltages or currents are in their limit.
+// A node row has one name and no loss.
 #[derive(Clone, Copy)]
 pub struct RowRead {
-    pub ok: bool,
-    pub next: usize,
     pub first: u64,
     pub second: u64,
     pub three: Three,
@@ -48,90 +46,51 @@ fn three_of(values: &[i64]) -> Three
 fn within_three(x: Three) -> bool
     ensures { result ≡ within3 2000000 x }
 {
-    if !within(x.a, 2_000_000) {
-        return false;
-    }
-    if !within(x.b, 2_000_000) {
-        return false;
-    }
-    within(x.c, 2_000_000)
-}
-
-fn no_row() -> RowRead
-    ensures { result.ok ≡ false }
-{
-    let pair = Pair { re: 0, im: 0 };
-    let three = Three {
-        a: pair,
-        b: pair,
-        c: pair,
-    };
-    RowRead {
-        ok: false,
-        next: 0,
-        first: 0,
-        second: 0,
-        three,
-        pair,
-        inside: true,
-    }
+    within(x.a, 2_000_000) && within(x.b, 2_000_000) && within(x.c, 2_000_000)
 }
 
 // The node row at a place.
-fn read_node(s: &[u8], at: usize) -> RowRead
+fn read_node(s: &[u8], at: usize) -> Option<Placed<RowRead>>
     ensures { RowIs false s.now at result }
 {
-    let Word::Name(first, p) = read_name(s, at, 44) else {
-        return no_row();
-    };
+    let (first, p) = read_name(s, at, b',')?;
     let mut values = [0i64; 6];
-    let Next::Behind(next) = read_numbers(s, p, &mut values) else {
-        return no_row();
-    };
+    let next = read_numbers(s, p, &mut values)?;
     let three = three_of(&values);
     let inside = within_three(three);
-    let pair = Pair { re: 0, im: 0 };
-    RowRead {
-        ok: true,
-        next,
+    let row = RowRead {
         first,
         second: 0,
         three,
-        pair,
+        pair: Pair { re: 0, im: 0 },
         inside,
-    }
+    };
+    Some((row, next))
 }
 
-// The branch row at a place.
-fn read_branch(s: &[u8], at: usize) -> RowRead
+// The branch row at a place. Apart from the node row, since it has a second name, and a loss behind the currents.
+fn read_branch(s: &[u8], at: usize) -> Option<Placed<RowRead>>
     ensures { RowIs true s.now at result }
 {
-    let Word::Name(first, p) = read_name(s, at, 44) else {
-        return no_row();
-    };
-    let Word::Name(second, q) = read_name(s, p, 44) else {
-        return no_row();
-    };
+    let (first, p) = read_name(s, at, b',')?;
+    let (second, q) = read_name(s, p, b',')?;
     let mut values = [0i64; 8];
-    let Next::Behind(next) = read_numbers(s, q, &mut values) else {
-        return no_row();
-    };
+    let next = read_numbers(s, q, &mut values)?;
     let three = three_of(&values);
     let inside = within_three(three);
     let pair = pair_of(&values, 6);
-    RowRead {
-        ok: true,
-        next,
+    let row = RowRead {
         first,
         second,
         three,
         pair,
         inside,
-    }
+    };
+    Some((row, next))
 }
 
 // The row at a place, of one table or of the other.
-pub fn read_row(s: &[u8], at: usize, branch: bool) -> RowRead
+pub fn read_row(s: &[u8], at: usize, branch: bool) -> Option<Placed<RowRead>>
     ensures { RowIs branch s.now at result }
 {
     if branch {

@@ -1,24 +1,17 @@
 // The node table and the branch table, each as a part of the report.
 ghost use Rattle.std.specs.Prelude.{◌≡◌, ◌&&◌, ◌+◌, ◌<◌, ◌≤◌, length};
 ghost use Rattle.report.specs.Report.{rows_just};
-ghost use Rattle.report_tables.specs.TablesRead.{Empty, NamedTable, TableIs, name_count, table_read, unused_count, value_count};
+ghost use Rattle.report_tables.specs.TablesRead.{Empty, NamedTable, TableIs, name_count, unused_count, value_count};
 
 use crate::fields::read_row;
 use arrays::{Names, Pairs, Threes, put_pair, put_three};
 use text::lines::{stands, stands_empty};
 
-// Where `ok`, the place behind a table, and whether its voltages or currents are in their limit.
+// The place behind a table, and whether its voltages or currents are in their limit.
 #[derive(Clone, Copy)]
 pub struct Table {
-    pub ok: bool,
     pub next: usize,
     pub inside: bool,
-}
-
-fn both(a: bool, b: bool) -> bool
-    ensures { result ≡ (a && b) }
-{
-    a && b
 }
 
 // The places in front of the first row.
@@ -30,6 +23,7 @@ fn unused_count(branch: bool) -> usize
 
 // Just so many rows, from a place on. Row k of the node table is stored at place k, counted from 0, and row k of the branch table at place k, counted from 1.
 // A node row has one name and no loss: it stores 0 in the other two arrays, which stay as they are.
+// Four arrays and not one struct of them, since each table is lent other fields of the report's arrays.
 fn read_rows(
     part: &[u8],
     from: usize,
@@ -39,35 +33,28 @@ fn read_rows(
     second: &mut Names,
     threes: &mut Threes,
     pairs: &mut Pairs,
-) -> Table
+) -> Option<Table>
     requires from_in_bounds { from ≤ length part.now }
     requires count_bound { unused_count branch + count ≤ 201 }
     requires empty { Empty first.old second.old threes.old pairs.old }
-    ensures { TableIs branch count part.now (rows_just count (name_count branch) (value_count branch) part.now from) (table_read result first.new second.new threes.new pairs.new) }
+    ensures { TableIs branch count part.now (rows_just count (name_count branch) (value_count branch) part.now from) result first.new second.new threes.new pairs.new }
 {
     let mut t = Table {
-        ok: true,
         next: from,
         inside: true,
     };
-    let mut k = unused_count(branch);
-    let last = k + count;
-    while k < last {
-        let at = t.next;
-        let row = read_row(part, at, branch);
-        if !row.ok {
-            t.ok = false;
-            return t;
-        }
+    let start = unused_count(branch);
+    let last = start + count;
+    for k in start..last {
+        let (row, next) = read_row(part, t.next, branch)?;
         first[k] = row.first;
         second[k] = row.second;
         put_three(threes, k, row.three);
         put_pair(pairs, k, row.pair);
-        t.next = row.next;
-        t.inside = both(t.inside, row.inside);
-        k += 1;
+        let inside = t.inside && row.inside;
+        t = Table { next, inside };
     }
-    t
+    Some(t)
 }
 
 // The table with this line of names, from the start of a part of the report, and the empty line behind it.
@@ -80,20 +67,16 @@ pub fn read_table(
     second: &mut Names,
     threes: &mut Threes,
     pairs: &mut Pairs,
-) -> Table
+) -> Option<Table>
     requires header_nonzero { 0 < length header.now }
     requires count_bound { unused_count branch + count ≤ 201 }
     requires empty { Empty first.old second.old threes.old pairs.old }
-    ensures { NamedTable branch count header.now part.now (table_read result first.new second.new threes.new pairs.new) }
+    ensures { NamedTable branch count header.now part.now result first.new second.new threes.new pairs.new }
 {
     if !stands(part, 0, header) {
-        return Table {
-            ok: false,
-            next: 0,
-            inside: true,
-        };
+        return None;
     }
-    let mut t = read_rows(
+    let rows = read_rows(
         part,
         header.len(),
         count,
@@ -102,15 +85,13 @@ pub fn read_table(
         second,
         threes,
         pairs,
-    );
-    if !t.ok {
-        return t;
-    }
-    let p = t.next;
+    )?;
+    let p = rows.next;
     if !stands_empty(part, p) {
-        t.ok = false;
-        return t;
+        return None;
     }
-    t.next = p + 1;
-    t
+    Some(Table {
+        next: p + 1,
+        inside: rows.inside,
+    })
 }

@@ -8,7 +8,7 @@ use Rattle.equations.specs.Equations.{at, drawn_power, loss_of, lost_power, sour
 use Rattle.feeder.specs.Feeder.{Feeder, branch_at, regulates, regulators, row_count, taps_on}
 use Rattle.feeder.specs.declared.Branch.{Branch}
 use Rattle.feeder.specs.declared.Phase.{Phase}
-use Rattle.feeder.specs.declared.Three.{Three}
+use Rattle.feeder.specs.Phased.{Three}
 use Rattle.integers.specs.Lists.{count, tab}
 use Rattle.integers.specs.PairLaws.{Within}
 use Rattle.integers.specs.declared.Pair.{Pair}

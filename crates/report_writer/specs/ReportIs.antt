@@ -8,8 +8,7 @@ use Rattle.feeder.specs.Feeder.{Feeder, branch_at, no_branch, parent, regulates,
 use Rattle.feeder.specs.Network.{branch_array, kept}
 use Rattle.feeder.specs.NetworkLaws.{get_or_kept, kept-below}
 use Rattle.feeder.specs.declared.Branch.{Branch}
-use Rattle.feeder.specs.declared.Taps.{Taps}
-use Rattle.feeder.specs.declared.Three.{Three}
+use Rattle.feeder.specs.Phased.{Taps, Three}
 use Rattle.integers.specs.Lists.{chosen, count, tab}
 use Rattle.integers.specs.Pairs.{0c}
 use Rattle.integers.specs.declared.Pair.{Pair}

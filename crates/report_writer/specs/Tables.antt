@@ -3,7 +3,7 @@ use Rattle.std.specs.Prelude.{cond, ◌-◌, ◌<◌, ◌≤◌, suc, ℕ, get_o
 use Rattle.equations.specs.Equations.{zero3}
 use Rattle.feeder.specs.Feeder.{no_branch, regulates, taps_on}
 use Rattle.feeder.specs.declared.Branch.{Branch}
-use Rattle.feeder.specs.declared.Three.{Three}
+use Rattle.feeder.specs.Phased.{Three}
 use Rattle.integers.specs.Pairs.{0c}
 use Rattle.integers.specs.declared.Pair.{Pair}
 use Rattle.integers.specs.Lists.{count}

@@ -4,7 +4,7 @@
 ghost use Rattle.std.specs.Prelude.{List, ◌++◌, ◌≡◌, ◌≤◌, drop, length};
 ghost use Rattle.arrays.specs.Arrays.{branches_of, pairs_of, threes_of};
 ghost use Rattle.feeder.specs.Feeder.{Feeder};
-ghost use Rattle.feeder.specs.declared.Three.{Three};
+ghost use Rattle.feeder.specs.Phased.{Three};
 ghost use Rattle.report.specs.Report.{report_text};
 ghost use Rattle.report_writer.specs.ReportIs.{Shown};
 ghost use Rattle.report_writer.specs.Tables.{Given, whole_text};

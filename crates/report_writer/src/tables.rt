@@ -17,14 +17,11 @@ pub fn put_nodes(out: &mut [u8], nodes: &Names, rows: usize, v: &Threes) -> usiz
     ensures { Written out.old 0 (node_table (node_line_at nodes.now (threes_of v.now)) rows) result out.new }
 {
     let mut at = put_bytes(out, 0, b"node,va_re,va_im,vb_re,vb_im,vc_re,vc_im\n");
-    let mut k = 0;
-    while k <= rows {
-        let name = nodes[k];
+    for k in 0..rows + 1 {
         let x = three_at(v, k);
-        at = put_node(out, at, name, x);
-        k += 1;
+        at = put_node(out, at, nodes[k], x);
     }
-    put_byte(out, at, 10)
+    put_byte(out, at, b'\n')
 }
 
 // The column names, a line for each branch row, and an empty line.
@@ -46,17 +43,15 @@ pub fn put_branches(
         0,
         b"from,to,ia_re,ia_im,ib_re,ib_im,ic_re,ic_im,loss_p,loss_q\n",
     );
-    let mut row = 1;
-    while row <= rows {
+    for row in 1..rows + 1 {
         let from = from_at(branches, row);
         let upper = nodes[from];
         let lower = nodes[row];
         let x = three_at(i, row);
         let loss = pair_at(losses, row);
         at = put_branch(out, at, upper, lower, x, loss);
-        row += 1;
     }
-    put_byte(out, at, 10)
+    put_byte(out, at, b'\n')
 }
 
 // The column names, one line, and an empty line.
@@ -71,7 +66,7 @@ pub fn put_totals(out: &mut [u8], figures: Figures) -> usize
         b"sweeps,source_p,source_q,drawn_p,drawn_q,lost_p,lost_q\n",
     );
     let end = put_totals_line(out, at, figures);
-    put_byte(out, end, 10)
+    put_byte(out, end, b'\n')
 }
 
 // The line of branch row k in the last table: none where it is no regulator's.
@@ -95,10 +90,8 @@ pub fn put_taps_table(out: &mut [u8], nodes: &Names, branches: &Branches, rows: 
     ensures { Written out.old 0 (tap_table (tap_line_at nodes.now (branches_of branches.now)) rows) result out.new }
 {
     let mut at = put_bytes(out, 0, b"to,tap_a,tap_b,tap_c\n");
-    let mut k = 1;
-    while k <= rows {
+    for k in 1..rows + 1 {
         at = put_tap_line(out, at, nodes, branches, k);
-        k += 1;
     }
     at
 }

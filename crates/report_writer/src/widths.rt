@@ -1,4 +1,4 @@
-// How many bytes each of the report's tables takes.
+// How many bytes each of the report's tables takes. Apart from the writers of tables.rt, as crate report_lines has its widths apart from its writers.
 ghost use Rattle.std.specs.Prelude.{◌≡◌, ◌<◌, ◌≤◌, length};
 ghost use Rattle.arrays.specs.Arrays.{branches_of, pairs_of, threes_of};
 ghost use Rattle.report_writer.specs.Tables.{branch_line_at, branch_table, Linked, node_line_at, node_table, tap_line_at, tap_table, totals_table};
@@ -14,12 +14,9 @@ pub fn nodes_width(nodes: &Names, rows: usize, v: &Threes) -> usize
     ensures size { result < 1000000 }
 {
     let mut width = 42;
-    let mut k = 0;
-    while k <= rows {
-        let name = nodes[k];
+    for k in 0..rows + 1 {
         let x = three_at(v, k);
-        width += node_width(name, x);
-        k += 1;
+        width += node_width(nodes[k], x);
     }
     width
 }
@@ -37,15 +34,13 @@ pub fn branches_width(
     ensures size { result < 1000000 }
 {
     let mut width = 59;
-    let mut row = 1;
-    while row <= rows {
+    for row in 1..rows + 1 {
         let from = from_at(branches, row);
         let upper = nodes[from];
         let lower = nodes[row];
         let x = three_at(i, row);
         let loss = pair_at(losses, row);
         width += branch_width(upper, lower, x, loss);
-        row += 1;
     }
     width
 }
@@ -76,10 +71,8 @@ pub fn taps_width(nodes: &Names, branches: &Branches, rows: usize) -> usize
     ensures size { result < 1000000 }
 {
     let mut width = 21;
-    let mut k = 1;
-    while k <= rows {
+    for k in 1..rows + 1 {
         width += tap_line_width(nodes, branches, k);
-        k += 1;
     }
     width
 }

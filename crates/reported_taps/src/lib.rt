@@ -5,13 +5,12 @@ ghost use Rattle.std.specs.Prelude.{◌≡◌, ◌≤◌, List, get_or, length, 
 ghost use Rattle.arrays.specs.Arrays.{branches_of};
 ghost use Rattle.feeder.specs.Feeder.{Feeder, no_branch, no_taps, row_count, tapped_branch, with_taps};
 ghost use Rattle.feeder.specs.Network.{branch_array, kept};
-ghost use Rattle.feeder.specs.declared.Taps.{Taps};
+ghost use Rattle.feeder.specs.Phased.{Taps};
 ghost use Rattle.tap_table.specs.TapTable.{taps_of};
 
 use arrays::Branches;
 use branch_taps::{put_taps, regulates_at};
-use tap_table::by_node::row_taps;
-use tap_table::taps::TapRows;
+use tap_table::taps::{TapRows, row_taps};
 
 // Row k gets its taps, where it is a regulator. A line or a transformer has none.
 fn set_row(branches: &mut Branches, k: usize, taps: &TapRows)
@@ -19,8 +18,7 @@ fn set_row(branches: &mut Branches, k: usize, taps: &TapRows)
     ensures { branches_of branches.new ≡ set (branches_of branches.old) k (tapped_branch (get_or (taps_of taps.now) k no_taps) (get_or (branches_of branches.old) k no_branch)) }
 {
     if regulates_at(branches, k) {
-        let n = taps[k];
-        let t = row_taps(&n);
+        let t = row_taps(&taps[k]);
         put_taps(branches, k, t);
     }
 }
@@ -31,9 +29,7 @@ pub fn set_taps(branches: &mut Branches, rows: usize, taps: &TapRows)
     requires branches_len { length (branches_of branches.old) ≡ 201 }
     ensures { (f : Feeder) (t : List Taps) → branches_of branches.old ≡ branch_array f → rows ≡ row_count f → taps_of taps.now ≡ kept no_taps 201 t → length t ≤ 201 → branches_of branches.new ≡ branch_array (with_taps t f) }
 {
-    let mut k = 1;
-    while k <= rows {
+    for k in 1..rows + 1 {
         set_row(branches, k, taps);
-        k += 1;
     }
 }

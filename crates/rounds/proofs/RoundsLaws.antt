@@ -1,8 +1,8 @@
 -- What is known where the rounds have ended: a feeder that differs in its taps alone, its solution, and that no phase that wants can move. Assumes nothing.
-use Rattle.std.specs.Prelude.{Bool, cond, false, true, ◌≡◌, refl, ◌<◌, ◌≤◌, suc, zero, ℕ}
+use Rattle.std.specs.Prelude.{Bool, cond, false, true, ◌≡◌, refl, ◌<◌, ◌≤◌, suc, zero, ℕ, Ok}
 use Rattle.std.proofs.Common.{◌∙◌, subst, arith}
 use Rattle.answers.specs.AnswerLaws.{bound, not-refused, same_good}
-use Rattle.answers.specs.Answers.{◌>>=◌, good}
+use Rattle.answers.specs.Answers.{◌>>=◌}
 use Rattle.answers.specs.Only.{Only, cond-only, good-only, refused-only, then-only}
 use Rattle.answers.specs.declared.Refusal.{Refusal}
 use Rattle.answers.specs.declared.Refusal.TheVariants.{NotSettled, TapsMoving}
@@ -17,7 +17,7 @@ use Rattle.rounds.specs.Rounds.{Regulated, regulated, rounds}
 
 -- one round
 pub rounds-step : (left : ℕ) (f : Feeder) → rounds (suc left) f
-    ≡ (solution f >>= λ x. cond (at_rest f x.voltages x.currents) (good (record { feeder = f; solution = x })) (rounds left (with_taps (moved f x.voltages x.currents) f)))
+    ≡ (solution f >>= λ x. cond (at_rest f x.voltages x.currents) (Ok (record { feeder = f; solution = x })) (rounds left (with_taps (moved f x.voltages x.currents) f)))
 unfolding rounds
 rounds-step left f = refl
 
@@ -33,7 +33,7 @@ pub record Ended (f : Feeder) (y : Regulated) : Type 0 where
   pub retapped : Retapped f y.feeder
   pub taps : TapsWithin f y.feeder
   pub fixed : TapsFixed f y.feeder
-  pub solved-as : solution y.feeder ≡ good y.solution
+  pub solved-as : solution y.feeder ≡ Ok y.solution
   pub rest : at_rest y.feeder y.solution.voltages y.solution.currents ≡ true
 
 -- a move leaves all but the taps, and these within ±16
@@ -47,21 +47,21 @@ moved-fixed f g x h t k q e =
     let n : k < row_count g = rw h.rows q in
     feeder-fixed g x.voltages x.currents (suc k) (omega arith) (rw (level-same h (suc k)) e) ∙ t k q e
 
-rounds-end : (left : ℕ) (f g : Feeder) (y : Regulated) → Retapped f g → TapsWithin f g → TapsFixed f g → rounds left g ≡ good y → Ended f y
+rounds-end : (left : ℕ) (f g : Feeder) (y : Regulated) → Retapped f g → TapsWithin f g → TapsFixed f g → rounds left g ≡ Ok y → Ended f y
 unfolding rounds
 rounds-end zero f g y h t z e = not-refused _ y e
 rounds-end (suc left) f g y h t z e =
     let after : Solution → Feeder = λ x. with_taps (moved g x.voltages x.currents) g in
-    let b = bound (solution g) (λ x. cond (at_rest g x.voltages x.currents) (good (record { feeder = g; solution = x })) (rounds left (after x))) y e in
+    let b = bound (solution g) (λ x. cond (at_rest g x.voltages x.currents) (Ok (record { feeder = g; solution = x })) (rounds left (after x))) y e in
     go b.value b.came (at_rest g b.value.voltages b.value.currents) refl b.rest (rounds-end left f (after b.value) y (retapped-with f g _ h) (moved-within f g b.value h t) (moved-fixed f g b.value h z))
   where
-    go : (x : Solution) → solution g ≡ good x → (c : Bool) → at_rest g x.voltages x.currents ≡ c
-        → cond c (good (record { feeder = g; solution = x })) (rounds left (with_taps (moved g x.voltages x.currents) g)) ≡ good y
-        → (rounds left (with_taps (moved g x.voltages x.currents) g) ≡ good y → Ended f y) → Ended f y
+    go : (x : Solution) → solution g ≡ Ok x → (c : Bool) → at_rest g x.voltages x.currents ≡ c
+        → cond c (Ok (record { feeder = g; solution = x })) (rounds left (with_taps (moved g x.voltages x.currents) g)) ≡ Ok y
+        → (rounds left (with_taps (moved g x.voltages x.currents) g) ≡ Ok y → Ended f y) → Ended f y
     go x s true r e far = subst (Ended f) (same_good _ y e) (record { retapped = h; taps = t; fixed = z; solved-as = s; rest = r })
     go x s false r e far = far e
 
-pub regulated-end : (f : Feeder) (y : Regulated) → TapsWithin f f → regulated f ≡ good y → Ended f y
+pub regulated-end : (f : Feeder) (y : Regulated) → TapsWithin f f → regulated f ≡ Ok y → Ended f y
 unfolding regulated
 regulated-end f y t e = rounds-end 32 f f y (retapped-self f) t (λ k q n. refl) e
 

@@ -1,7 +1,8 @@
 -- What the rounds come to over a feeder in memory: each round is one step of the definition. Assumes nothing.
-use Rattle.std.specs.Prelude.{Bool, cond, false, not, true, List, ◌≡◌, refl, ◌+◌, ◌<◌, suc, zero, ℕ, get_or}
+use Rattle.std.specs.Prelude.{Bool, cond, false, not, true, List, ◌≡◌, refl, ◌+◌, ◌<◌, suc, zero, ℕ, get_or, Ok, Err}
 use Rattle.std.proofs.Common.{◌∙◌, ap, sym, arith}
-use Rattle.answers.specs.Answers.{Outcome, ◌>>=◌, good, refused}
+use Rattle.answers.specs.AnswerLaws.{not-refused, same_good}
+use Rattle.answers.specs.Answers.{Outcome, ◌>>=◌}
 use Rattle.answers.specs.declared.Refusal.{Refusal}
 use Rattle.answers.specs.declared.Refusal.TheVariants.{TapsMoving}
 use Rattle.equations.specs.Equations.{beyond3, voltage_beyond, zero3}
@@ -13,16 +14,14 @@ use Rattle.feeder.specs.Network.{Held, branch_array}
 use Rattle.feeder.proofs.TapLaws.{retapped-self, retapped-with}
 use Rattle.feeder.specs.declared.Branch.{Branch}
 use Rattle.feeder.specs.declared.Network.{Network}
-use Rattle.feeder.specs.declared.Three.{Three}
+use Rattle.feeder.specs.Phased.{Three}
 use Rattle.integers.specs.ListLaws.{any_false, tab-all}
 use Rattle.integers.specs.Lists.{any, count}
 use Rattle.iteration.specs.Ladder.{Solution, solution}
 use Rattle.iteration.proofs.LadderLaws.{solved}
 use Rattle.iteration.proofs.RunLaws.{same-array}
-use Rattle.iteration.specs.Runs.{GoodRun, SolvedAs, Solving-is}
+use Rattle.iteration.specs.Runs.{GoodRun, SolvedAs}
 use Rattle.iteration.specs.declared.Run.{Run}
-use Rattle.iteration.specs.declared.Solving.{Solving}
-use Rattle.iteration.specs.declared.Solving.TheVariants.{Solved, Unsolved}
 use Rattle.passes.specs.Same.{Same}
 use Rattle.rounds.specs.Moving.{moved_same, moved-small, rest_at}
 use Rattle.rounds.specs.Rounds.{Regulated, regulated, rounds}
@@ -41,23 +40,25 @@ pub reached-start : (f : Feeder) (n : Network) → Held f n → Reached f 32 n
 unfolding regulated
 reached-start f n h = record { feeder = f; held = h; same = refl }
 
-pub reached-last : (f : Feeder) (n : Network) → Reached f 0 n → (r : Run) (v i : List Three) → r.solving ≡ Unsolved (TapsMoving 32) → RegulatedAs (regulated f) r n v i
+pub reached-last : (f : Feeder) (n : Network) → Reached f 0 n → (v i : List Three) → RegulatedAs (regulated f) (Err (TapsMoving 32)) n v i
 unfolding rounds
-reached-last f n w r v i e = record { regulating-is = rw w.same e }
+reached-last f n w v i = record { regulating-is = rw w.same refl }
 
 -- ---- a run that is solved
 pub record Found (f : Feeder) (r : Run) (v i : List Three) : Type 0 where
   pub value : Solution
-  pub came : solution f ≡ good value
-  pub sweeps : r.solving ≡ Solved value.sweeps
+  pub came : solution f ≡ Ok value
+  pub sweeps : r.sweeps ≡ value.sweeps
   pub run : GoodRun f value v i r.drawn
 
-pub found : (f : Feeder) (r : Run) (v i : List Three) (q : ℕ) → SolvedAs f (solution f) r v i → r.solving ≡ Solved q → Found f r v i
-found f r v i q s e = go (solution f) refl s.solving-is
+pub found : (f : Feeder) (r : Run) (v i : List Three) → SolvedAs f (solution f) (Ok r) v i → Found f r v i
+found f r v i s = go (solution f) refl s
   where
-    go : (o : Outcome Solution) → solution f ≡ o → Solving-is f o r v i → Found f r v i
-    go (good x) z h = record { value = x; came = z; sweeps = h.0; run = h.1 }
-    go (refused y) z h = let b : ◌≡◌ {A = Solving} (Unsolved y) (Solved q) = sym h ∙ e in let z : ◌≡◌ {A = ℕ} 0 1 = cc in absurd (omega arith)
+    go : (o : Outcome Solution) → solution f ≡ o → SolvedAs f o (Ok r) v i → Found f r v i
+    go (Ok x) z h =
+        let e = same_good r _ h.run-is in
+        record { value = x; came = z; sweeps = ap (λ (y : Run). y.sweeps) e; run = rw (ap (λ (y : Run). y.drawn) e) h.arrays-are }
+    go (Err y) z h = not-refused y r (sym h.run-is)
 
 row-false : (f : ℕ → Bool) (n : ℕ) → any f (count 1 n) ≡ false → (j : ℕ) → j < n → f (suc j) ≡ false
 unfolding count
@@ -73,26 +74,26 @@ found_within f r v i w (suc k) p q =
     (beyond3-false (row-false (λ k. beyond3 (get_or x.voltages k zero3)) (row_count f) (solved f x w.came).t33 k (omega arith)))
 
 -- ---- one round
-module _ (f : Feeder) (left : ℕ) (n : Network) (w : Reached f (suc left) n) (r : Run) (v i : List Three) (s : SolvedAs w.feeder (solution w.feeder) r v i) where
+module _ (f : Feeder) (left : ℕ) (n : Network) (w : Reached f (suc left) n) where
   abbrev g : Feeder
   g = w.feeder
 
   abbrev next : Solution → Outcome Regulated
-  next x = cond (at_rest g x.voltages x.currents) (good (record { feeder = g; solution = x })) (rounds left (with_taps (moved g x.voltages x.currents) g))
+  next x = cond (at_rest g x.voltages x.currents) (Ok (record { feeder = g; solution = x })) (rounds left (with_taps (moved g x.voltages x.currents) g))
 
   step : regulated f ≡ (solution g >>= next)
   step = w.same ∙ rounds-step left g
 
-  pub round-stops : (x : Refusal) → r.solving ≡ Unsolved x → (m : Network) (u j : List Three) → RegulatedAs (regulated f) r m u j
-  round-stops x e m u j = go (solution g) refl s.solving-is
+  pub round-stops : (x : Refusal) (v i : List Three) → SolvedAs g (solution g) (Err x) v i → (m : Network) (u j : List Three) → RegulatedAs (regulated f) (Err x) m u j
+  round-stops x v i s m u j = go (solution g) refl s
     where
-      go : (o : Outcome Solution) → solution g ≡ o → Solving-is g o r v i → RegulatedAs (regulated f) r m u j
-      go (good y) z h = let b : ◌≡◌ {A = Solving} (Solved y.sweeps) (Unsolved x) = sym h.0 ∙ e in let z : ◌≡◌ {A = ℕ} 0 1 = cc in absurd (omega arith)
-      go (refused y) z h = record { regulating-is = rw (step ∙ ap (λ (o : Outcome Solution). o >>= next) z) h }
+      go : (o : Outcome Solution) → solution g ≡ o → SolvedAs g o (Err x) v i → RegulatedAs (regulated f) (Err x) m u j
+      go (Ok y) z h = not-refused x _ h.run-is
+      go (Err y) z h = record { regulating-is = rw (step ∙ ap (λ (o : Outcome Solution). o >>= next) z) h.run-is }
 
-  module _ (q : ℕ) (e : r.solving ≡ Solved q) (moving : Bool) (bs : List Branch) (m : moving ≡ not (at_rest g v i)) (b : bs ≡ branch_array (with_taps (moved g v i) g)) where
+  module _ (r : Run) (v i : List Three) (s : SolvedAs g (solution g) (Ok r) v i) (moving : Bool) (bs : List Branch) (m : moving ≡ not (at_rest g v i)) (b : bs ≡ branch_array (with_taps (moved g v i) g)) where
     y : Found g r v i
-    y = found g r v i q s e
+    y = found g r v i s
 
     abbrev x : Solution
     x = y.value
@@ -115,17 +116,17 @@ module _ (f : Feeder) (left : ℕ) (n : Network) (w : Reached f (suc left) n) (r
     rest : (c : Bool) → moving ≡ c → at_rest g x.voltages x.currents ≡ not c
     rest c z = sym (rest_at g sv si) ∙ turned moving (at_rest g v i) m ∙ ap not z
 
-    pub round-rests : moving ≡ false → RegulatedAs (regulated f) r (with_branches bs n) v i
+    pub round-rests : moving ≡ false → RegulatedAs (regulated f) (Ok r) (with_branches bs n) v i
     round-rests z =
         let same : with_taps (moved g v i) g ≡ g = rest-same g v i (turned moving (at_rest g v i) m ∙ ap not z) in
-        let o : regulated f ≡ good (record { feeder = g; solution = x }) = here ∙ ap (λ (c : Bool). cond c (good (record { feeder = g; solution = x })) (rounds left (with_taps (moved g x.voltages x.currents) g))) (rest false z) in
-        let a : SolvedAs g (good x) r v i = record { solving-is = (y.sweeps, y.run) } in
+        let o : regulated f ≡ Ok (record { feeder = g; solution = x }) = here ∙ ap (λ (c : Bool). cond c (Ok (record { feeder = g; solution = x })) (rounds left (with_taps (moved g x.voltages x.currents) g))) (rest false z) in
+        let a : SolvedAs g (Ok x) (Ok r) v i = rw y.came at s in
         record { regulating-is = rw o (retapped-held g g n bs (retapped-self g) (b ∙ ap branch_array same) w.held, a) }
 
     pub round-moves : moving ≡ true → Reached f left (with_branches bs n)
     round-moves z =
         let t = moved_same g sv si in
-        let o : regulated f ≡ rounds left (with_taps (moved g x.voltages x.currents) g) = here ∙ ap (λ (c : Bool). cond c (good (record { feeder = g; solution = x })) (rounds left (with_taps (moved g x.voltages x.currents) g))) (rest true z) in
+        let o : regulated f ≡ rounds left (with_taps (moved g x.voltages x.currents) g) = here ∙ ap (λ (c : Bool). cond c (Ok (record { feeder = g; solution = x })) (rounds left (with_taps (moved g x.voltages x.currents) g))) (rest true z) in
         record {
           feeder = with_taps (moved g v i) g;
           held = retapped-held g (with_taps (moved g v i) g) n bs (retapped-with g g (moved g v i) (retapped-self g)) b w.held;

@@ -18,8 +18,7 @@ use Rattle.feeder.specs.declared.Device.{Device}
 use Rattle.feeder.specs.declared.Device.TheVariants.{Line, Regulator, Transformer}
 use Rattle.feeder.specs.declared.Phase.{Phase}
 use Rattle.feeder.specs.declared.Phase.TheVariants.{A, B, C}
-use Rattle.feeder.specs.declared.Taps.{Taps}
-use Rattle.feeder.specs.declared.Three.{Three}
+use Rattle.feeder.specs.Phased.{Taps, Three}
 use Rattle.integers.specs.ListLaws.{true-count}
 use Rattle.integers.specs.Lists.{all, count, tab}
 use Rattle.integers.specs.Pairs.{inside}

@@ -1,7 +1,7 @@
 // The rounds of a study: regulators set their taps between them. specs/Rounds.antt says what they come to.
 #![tactic(auto)]
 
-ghost use Rattle.std.specs.Prelude.{cond, not, true, ◌≡◌, ◌+◌, ◌<◌, ◌≤◌, ℕ, get_or, length, replicate, set};
+ghost use Rattle.std.specs.Prelude.{not, true, ◌≡◌, ◌+◌, ◌<◌, ◌≤◌, ℕ, get_or, length, replicate, set};
 ghost use Rattle.arrays.specs.Arrays.{branches_of, network_of, no_numbers, threes_of};
 ghost use Rattle.equations.specs.Equations.{zero3};
 ghost use Rattle.equations.specs.Limits.{DeviceOk};
@@ -19,8 +19,7 @@ use answers::Refusal;
 use arrays::{Branches, Loads, Names, Places, Settings, Threes, branch_at, three_at};
 use branch_taps::put_taps;
 use feeder::{Device, Three};
-use integers::Pair;
-use iteration::{Run, Solving, solve};
+use iteration::{Run, solve};
 use taps::{moved_taps, same_taps};
 
 // The regulator that feeds node k moves its taps; whether any moved. A line or a transformer has none.
@@ -33,24 +32,12 @@ fn move_row(branches: &mut Branches, k: usize, u: Three, i: Three) -> bool
     ensures row { branches_of branches.new ≡ set (branches_of branches.old) k (moved_row (get_or (branches_of branches.old) k no_branch) u i) }
 {
     let b = branch_at(branches, k);
-    let d = b.device;
-    match d {
-        Device::Line(z) => false,
-        Device::Regulator(x) => {
-            let phases = b.phases;
-            let t = moved_taps(x, phases, u, i);
-            put_taps(branches, k, t);
-            let own = x.taps;
-            !same_taps(t, own)
-        }
-        Device::Transformer(w) => false,
-    }
-}
-
-fn either(a: bool, b: bool) -> bool
-    ensures { result ≡ cond a true b }
-{
-    if a { true } else { b }
+    let Device::Regulator(x) = b.device else {
+        return false;
+    };
+    let t = moved_taps(x, b.phases, u, i);
+    put_taps(branches, k, t);
+    !same_taps(t, x.taps)
 }
 
 // Each regulator moves its taps by the voltages v and the currents i; whether any moved.
@@ -63,13 +50,11 @@ pub fn move_taps(rows: usize, branches: &mut Branches, v: &Threes, i: &Threes) -
     ensures { (g : Feeder) → branches_of branches.old ≡ branch_array g → rows ≡ row_count g → (result ≡ not (at_rest g (threes_of v.now) (threes_of i.now))) × (branches_of branches.new ≡ branch_array (with_taps (moved g (threes_of v.now) (threes_of i.now)) g)) }
 {
     let mut changed = false;
-    let mut k = 1;
-    while k <= rows {
+    for k in 1..rows + 1 {
         let x = three_at(v, k);
         let y = three_at(i, k);
         let now = move_row(branches, k, x, y);
-        changed = either(now, changed);
-        k += 1;
+        changed = now || changed;
     }
     changed
 }
@@ -85,7 +70,7 @@ pub fn regulate(
     rank: &Places,
     v: &mut Threes,
     i: &mut Threes,
-) -> Run
+) -> Result<Run, Refusal>
     requires known_2 { Known (network_of settings nodes.now branches.old loads.now order.now rank.now) }
     requires v_value { v.old ≡ replicate 201 (no_numbers 6) }
     requires i_value { i.old ≡ replicate 201 (no_numbers 6) }
@@ -93,28 +78,13 @@ pub fn regulate(
     ensures size { SmallRun settings.rows result (threes_of i.new) }
     ensures known { Known (network_of settings nodes.now branches.new loads.now order.now rank.now) }
 {
-    let zero = Pair { re: 0, im: 0 };
-    let rows = settings.rows;
-    let mut k = 0usize;
-    while k < 32 {
-        let run = solve(settings, nodes, branches, loads, order, rank, v, i);
-        let solving = run.solving;
-        match solving {
-            Solving::Unsolved(x) => {
-                return run;
-            }
-            Solving::Solved(n) => {
-                if !move_taps(rows, branches, v, i) {
-                    return run;
-                }
-                *v = [[0i64; 6]; 201];
-                *i = [[0i64; 6]; 201];
-                k += 1;
-            }
+    for _ in 0..32usize {
+        let run = solve(settings, nodes, branches, loads, order, rank, v, i)?;
+        if !move_taps(settings.rows, branches, v, i) {
+            return Ok(run);
         }
+        *v = [[0i64; 6]; 201];
+        *i = [[0i64; 6]; 201];
     }
-    Run {
-        solving: Solving::Unsolved(Refusal::TapsMoving(32)),
-        drawn: zero,
-    }
+    Err(Refusal::TapsMoving(32))
 }

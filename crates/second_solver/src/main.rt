@@ -6,28 +6,26 @@
 
 ghost use Rattle.std.specs.Prelude.{◌≤◌, length};
 
-use answers::number_of;
-use arrays::{Branches, Loads, Names, Places, Settings, Threes};
+use answers::Refusal;
+use arrays::{Branches, Loads, Names, Places, Settings};
 use bounds::bound::bounds_on;
 use bounds::compare::{Compared, compare};
 use branch_taps::{put_taps, regulates_at};
-use cases::{Case, case_at, read_cases, text_space};
+use cases::{Case, Cases, read_cases, text_space};
 use feeder::Taps;
-use floats::phasor::PhasorRows;
+use floats::phasor::Solution;
 use floats::solver::{place, solve};
-use ladder::{Study, study_feeder};
+use ladder::{Written, study_feeder};
 use programs::{print, print_refusal, used};
-use reading::{ReadAnswer, read_into};
-use report_reader::read_report;
+use reading::read_into;
+use report_reader::{ReportArrays, read_report};
 use tap_table::taps::TapRows;
 
 // x in hundredths, to the nearest whole number; 0 where there is none.
 fn hundredths(x: f64) -> u64 {
     let y = 100.0 * x + 0.5;
-    if y > -1.0 {
-        if y < 18446744073709551616.0 {
-            return std::num::truncating_f64_to_u64(y);
-        }
+    if y > -1.0 && y < 18446744073709551616.0 {
+        return std::num::truncating_f64_to_u64(y);
     }
     0
 }
@@ -45,10 +43,7 @@ fn print_compared(rt: &impl Print, what: &str, c: Compared, unit: &str) {
 }
 
 fn within(voltages: Compared, currents: Compared) -> bool {
-    if voltages.share <= 1.0 {
-        return currents.share <= 1.0;
-    }
-    false
+    voltages.share <= 1.0 && currents.share <= 1.0
 }
 
 fn print_both(rt: &impl Print, voltages: Compared, currents: Compared) {
@@ -60,40 +55,6 @@ fn print_both(rt: &impl Print, voltages: Compared, currents: Compared) {
     print(rt, b"\n");
 }
 
-// The line of a feeder with a report, behind its name, from its solution in floats.
-fn try_solved(
-    rt: &impl Print,
-    settings: Settings,
-    branches: &Branches,
-    loads: &Loads,
-    order: &Places,
-    solved_voltages: &PhasorRows,
-    solved_currents: &PhasorRows,
-    voltages: &Threes,
-    currents: &Threes,
-) {
-    let mut voltage_bounds = [[0.0f64; 6]; 201];
-    let mut current_bounds = [[0.0f64; 6]; 201];
-    let e = bounds_on(
-        settings,
-        branches,
-        loads,
-        order,
-        solved_voltages,
-        voltages,
-        &mut voltage_bounds,
-        &mut current_bounds,
-    );
-    if e.found {
-        let rows = settings.rows;
-        let v = compare(rows, solved_voltages, voltages, &voltage_bounds, e.moved);
-        let i = compare(rows, solved_currents, currents, &current_bounds, 0.0);
-        print_both(rt, v, i);
-    } else {
-        print(rt, b" OVER: there is no bound\n");
-    }
-}
-
 // The line of a feeder with a report, behind its name. The branches hold the reported taps.
 fn try_report(
     rt: &impl Print,
@@ -101,34 +62,43 @@ fn try_report(
     branches: &Branches,
     loads: &Loads,
     order: &Places,
-    voltages: &Threes,
-    currents: &Threes,
+    report: &ReportArrays,
 ) {
-    let mut solved_voltages = [[0.0f64; 6]; 201];
-    let mut solved_currents = [[0.0f64; 6]; 201];
-    let s = solve(
+    let mut solved = Solution::zero();
+    if solve(settings, branches, loads, order, &mut solved).is_none() {
+        print(rt, b" OVER: the floats do not settle\n");
+        return;
+    }
+    let mut bounds = Solution::zero();
+    let bounded = bounds_on(
         settings,
         branches,
         loads,
         order,
-        &mut solved_voltages,
-        &mut solved_currents,
+        &solved.voltages,
+        &report.voltages,
+        &mut bounds,
     );
-    if s.settled {
-        try_solved(
-            rt,
-            settings,
-            branches,
-            loads,
-            order,
-            &solved_voltages,
-            &solved_currents,
-            voltages,
-            currents,
-        );
-    } else {
-        print(rt, b" OVER: the floats do not settle\n");
-    }
+    let Some(moved) = bounded else {
+        print(rt, b" OVER: there is no bound\n");
+        return;
+    };
+    let rows = settings.rows;
+    let v = compare(
+        rows,
+        &solved.voltages,
+        &report.voltages,
+        &bounds.voltages,
+        moved,
+    );
+    let i = compare(
+        rows,
+        &solved.currents,
+        &report.currents,
+        &bounds.currents,
+        0.0,
+    );
+    print_both(rt, v, i);
 }
 
 // The feeder's limit of sweeps, and the sweeps in which the floats settle. Where the floats settle within that limit, it is the whole numbers that run in a circle.
@@ -150,20 +120,11 @@ fn try_unsettled(
     loads: &Loads,
     order: &Places,
 ) {
-    let mut voltages = [[0.0f64; 6]; 201];
-    let mut currents = [[0.0f64; 6]; 201];
-    let s = solve(
-        settings,
-        branches,
-        loads,
-        order,
-        &mut voltages,
-        &mut currents,
-    );
-    if s.settled {
-        print_sweeps(rt, settings.limit, s.sweeps);
-    } else {
-        print(rt, b" is not settled (34), nor are the floats\n");
+    match solve(settings, branches, loads, order, &mut Solution::zero()) {
+        Some(sweeps) => print_sweeps(rt, settings.limit, sweeps),
+        None => {
+            print(rt, b" is not settled (34), nor are the floats\n");
+        }
     }
 }
 
@@ -171,7 +132,7 @@ fn try_unsettled(
 fn limit_of(limit: usize) -> usize
     ensures { result ≤ 100 }
 {
-    if limit <= 100 { limit } else { 100 }
+    limit.min(100)
 }
 
 // Where a regulator feeds node k, it takes the reported taps.
@@ -179,23 +140,15 @@ fn take_row(taps: &TapRows, branches: &mut Branches, k: usize)
     requires { k ≤ 200 }
 {
     if regulates_at(branches, k) {
-        let n = taps[k];
-        let t = Taps {
-            a: n[0],
-            b: n[1],
-            c: n[2],
-        };
-        put_taps(branches, k, t);
+        let [a, b, c] = taps[k];
+        put_taps(branches, k, Taps { a, b, c });
     }
 }
 
 // All regulators take the reported taps.
 fn take_taps(rows: usize, taps: &TapRows, branches: &mut Branches) {
-    let last = place(rows);
-    let mut k = 1;
-    while k <= last {
+    for k in 1..place(rows) + 1 {
         take_row(taps, branches, k);
-        k += 1;
     }
 }
 
@@ -209,38 +162,28 @@ fn try_written(
     order: &Places,
     written: &[u8],
 ) {
-    let mut node_names = [0u64; 201];
-    let mut voltages = [[0i64; 6]; 201];
-    let mut from_names = [0u64; 201];
-    let mut to_names = [0u64; 201];
-    let mut currents = [[0i64; 6]; 201];
-    let mut losses = [[0i64; 2]; 201];
-    let mut totals = [0i64; 7];
-    let mut tap_names = [0u64; 201];
-    let mut taps = [[0i64; 3]; 201];
     let rows = place(settings.rows);
+    let mut report = ReportArrays::empty();
     let read = read_report(
         written,
         nodes,
         branches,
         rows,
         limit_of(settings.limit),
-        &mut node_names,
-        &mut voltages,
-        &mut from_names,
-        &mut to_names,
-        &mut currents,
-        &mut losses,
-        &mut totals,
-        &mut tap_names,
-        &mut taps,
+        &mut report,
     );
-    if read {
-        take_taps(rows, &taps, branches);
-        try_report(rt, settings, branches, loads, order, &voltages, &currents);
-    } else {
+    if !read {
         print(rt, b" OVER: the report is not read\n");
+        return;
     }
+    take_taps(rows, &report.taps, branches);
+    try_report(rt, settings, branches, loads, order, &report);
+}
+
+// The line of a feeder that is refused, behind its name.
+fn print_refused(rt: &impl Print, x: Refusal) {
+    print(rt, b" ");
+    print_refusal(rt, x);
 }
 
 // The line of a feeder in memory, behind its name, from what the study made of it and the buffer that it wrote.
@@ -251,22 +194,16 @@ fn try_study(
     branches: &mut Branches,
     loads: &Loads,
     order: &Places,
-    study: Study,
+    study: Result<Written, Refusal>,
     buffer: &[u8],
 ) {
     match study {
-        Study::NoReport(x) => {
-            if number_of(x) == 34 {
-                try_unsettled(rt, settings, branches, loads, order);
-            } else {
-                print(rt, b" ");
-                print_refusal(rt, x);
-            }
-        }
-        Study::Written(size, _) => {
-            let n = used(size, buffer);
+        Ok(report) => {
+            let n = used(report.length, buffer);
             try_written(rt, settings, nodes, branches, loads, order, &buffer[..n]);
         }
+        Err(Refusal::NotSettled(_)) => try_unsettled(rt, settings, branches, loads, order),
+        Err(x) => print_refused(rt, x),
     }
 }
 
@@ -298,48 +235,23 @@ fn try_feeder(rt: &impl Print, feeder: &[u8]) {
         &mut order,
         &mut rank,
     );
-    let settings = read.settings;
-    let answer = read.answer;
-    match answer {
-        ReadAnswer::Good => study_and_try(
-            rt,
-            feeder,
-            settings,
-            &nodes,
-            &mut branches,
-            &loads,
-            &order,
-        ),
-        ReadAnswer::Refused(x) => {
-            print(rt, b" ");
-            print_refusal(rt, x);
-        }
+    match read {
+        Ok(settings) => study_and_try(rt, feeder, settings, &nodes, &mut branches, &loads, &order),
+        Err(x) => print_refused(rt, x),
     }
 }
 
-// The line of one case, whose places lie in the text. Its first text is its name, and its second the feeder.
-fn try_case(rt: &impl Print, text: &[u8], case: Case)
-    requires { (case.feeder ≤ case.report) × (case.report ≤ case.end) × (case.end ≤ length text.now) }
-{
-    let from = case.feeder;
-    let middle = case.report;
-    let end = case.end;
-    print(rt, &text[from..middle]);
-    try_feeder(rt, &text[middle..end]);
-}
-
-fn try_all(rt: &impl Print, text: &[u8]) {
-    let mut at = 0;
-    while at < text.len() {
-        let case = case_at(text, at);
-        try_case(rt, text, case);
-        at = case.end;
-    }
+// The line of one case. Its first text is its name, and its second the feeder.
+fn try_case(rt: &impl Print, case: Case<'_>) {
+    print(rt, case.feeder);
+    try_feeder(rt, case.report);
 }
 
 fn main(rt: HostRuntime) {
     let mut text = text_space();
     let size = read_cases(&rt, b"cases", &mut text);
     let n = used(size, &text);
-    try_all(&rt, &text[..n]);
+    for case in Cases(&text[..n]) {
+        try_case(&rt, case);
+    }
 }

@@ -6,7 +6,7 @@ ghost use Rattle.answer_text.specs.AnswerText.{PutAtStart};
 ghost use Rattle.study_answer.specs.StudyAnswer.{study_text};
 
 use answer_text::put_refusal;
-use ladder::{Study, study_feeder};
+use ladder::study_feeder;
 
 // The report of a feeder, or the line "refused NUMBER VALUE", at the start of `out`; where `out` has no room for the line either, nothing. Answers how many
 // bytes were written. For all bytes and all lengths.
@@ -15,7 +15,7 @@ pub fn put_study_answer(feeder: &[u8], out: &mut [u8]) -> usize
 {
     let answer = study_feeder(feeder, out);
     match answer {
-        Study::Written(length, _) => length,
-        Study::NoReport(x) => put_refusal(out, x),
+        Ok(written) => written.length,
+        Err(x) => put_refusal(out, x),
     }
 }

@@ -1,30 +1,31 @@
 -- A feeder in memory is what the passes and the loads ask for. Assumes nothing.
-use Rattle.std.specs.Prelude.{Bool, not, List, ◌∷◌, ◌≡◌, refl, ◌+◌, ◌<◌, ◌≤◌, suc, zero, ℕ, get_or, length}
+use Rattle.std.specs.Prelude.{Bool, not, List, ◌∷◌, ◌≡◌, refl, ◌+◌, ◌<◌, ◌≤◌, suc, zero, ℕ, get_or, length, Result, Ok, Err, OnOk}
 use Rattle.std.proofs.Math.Bool.{false, true}
-use Rattle.std.proofs.Common.{◌∙◌, sym, arith, ne_eqb}
+use Rattle.std.proofs.Common.{◌∙◌, ap, sym, arith, ne_eqb}
+use Rattle.std.proofs.lemmas.Result.{IfOk-at_ok, on_ok_weaker}
 use Rattle.std.proofs.Math.Decide.{dec_lt}
 use Rattle.arrays.specs.Arrays.{Spare}
-use Rattle.draws.specs.Draws.{DrawsOf, LoadsOk, state_of}
-use Rattle.draws.specs.declared.Draws.{Draws}
-use Rattle.equations.specs.Equations.{current_beyond, currents, load_beyond, loads_at, zero3, zero_voltage}
+use Rattle.draws.specs.Draws.{DrawsOf, LoadsOk, draw_of}
+use Rattle.equations.specs.Equations.{current_beyond, currents, drawn_power, load_beyond, loads_at, zero3, zero_voltage}
 use Rattle.equations.specs.Fit.{Fit}
 use Rattle.equations.specs.Limits.{DeviceOk, LoadOk}
 use Rattle.equations.specs.Sizes.{Within3}
 use Rattle.equations.specs.ThreeLaws.{sum3-cong, sum3-zero}
 use Rattle.feeder.specs.Feeder.{Feeder, branch_at, no_branch, row_count}
-use Rattle.feeder.specs.Network.{Held, no_load}
+use Rattle.feeder.specs.Network.{Held, kept, no_load}
 use Rattle.feeder.specs.NetworkLaws.{get_or_kept, length-kept}
 use Rattle.feeder.specs.declared.Network.{Network}
-use Rattle.feeder.specs.declared.Three.{Three}
+use Rattle.feeder.specs.Phased.{Three}
 use Rattle.integers.specs.ListLaws.{all-at, get_or-tab, length-tab}
 use Rattle.integers.specs.Lists.{tab}
+use Rattle.integers.specs.declared.Pair.{Pair}
+use Rattle.loads.specs.declared.LoadError.{LoadError}
+use Rattle.loads.specs.declared.LoadError.TheVariants.{Beyond, ZeroVoltage as AtZero}
 use Rattle.passes.specs.Arrays.{get_or-behind}
 use Rattle.passes.specs.Passes.{InArrays, Ready, UpwardIs}
-use Rattle.sweeps.specs.Sweeps.{Known, WorkedIs, work_of}
-use Rattle.sweeps.specs.declared.Work.{Work}
-use Rattle.sweeps.specs.declared.Work.TheVariants.{CurrentBeyond, Fine, LoadBeyond, ZeroVoltage}
-use Rattle.sweeps.specs.declared.Worked.{Worked}
-use Rattle.draws.specs.declared.State.TheVariants.{Beyond, Fine as FineDraws, ZeroVoltage as AtZero}
+use Rattle.sweeps.specs.Sweeps.{Known, WorkedIs, work_error, work_of}
+use Rattle.sweeps.specs.declared.WorkError.{WorkError}
+use Rattle.sweeps.specs.declared.WorkError.TheVariants.{CurrentBeyond}
 
 module _ {f : Feeder} {g : Network} (h : Held f g) where
   pub in-arrays : InArrays f g.branches g.rows
@@ -79,38 +80,39 @@ loads-behind f v h k q =
     h.loads ∙ sum3-zero f.loads
 
 -- what the rows of a known feeder draw
-module _ {g : Network} (known : Known g) (v : List Three) (r : Draws) (own : List Three) (of : (f : Feeder) → Held f g → DrawsOf f v r own) (fine : r.state ≡ FineDraws) where
+module _ {g : Network} (known : Known g) (v : List Three) (r : Result Pair LoadError) (own : List Three) (of : (f : Feeder) → Held f g → DrawsOf f v r own) (drawn : Pair) (fine : r ≡ Ok drawn) where
+  own-tab : (f : Feeder) → Held f g → own ≡ tab (loads_at f v) 0 201
+  own-tab f h = IfOk-at_ok (λ p. own ≡ tab (loads_at f v) 0 201) fine (of f h).own_is
+
   pub own-places : length own ≡ 201
-  own-places = rw ((of known.feeder known.held).own_is fine) (length-tab (loads_at known.feeder v) 0 201)
+  own-places = rw (own-tab known.feeder known.held) (length-tab (loads_at known.feeder v) 0 201)
 
   pub own_behind : (k : ℕ) → g.rows < k → get_or own k zero3 ≡ zero3
   own_behind k q =
       let f = known.feeder in
-      let e = (of f known.held).own_is fine in
-      rw e (elim (dec_lt k 201) [
+      rw (own-tab f known.held) (elim (dec_lt k 201) [
         | yes y ↦ get_or-tab (loads_at f v) 0 201 k zero3 y ∙ (let z : 0 + k ≡ k = omega arith in rw z (loads-behind f v known.fit k (let n = known.held.rows in omega arith)))
         | no y ↦ get_or-behind (tab (loads_at f v) 0 201) k zero3 (omega (arith, length-tab (loads_at f v) 0 201))
       ])
 
   pub own_at : (f : Feeder) → Held f g → (k : ℕ) → k < g.rows + 1 → get_or own k zero3 ≡ loads_at f v k
   own_at f h k q =
-      rw ((of f h).own_is fine) (get_or-tab (loads_at f v) 0 201 k zero3 (let n = h.rows in let m = h.few-rows in omega arith) ∙ (let z : 0 + k ≡ k = omega arith in rw z))
+      rw (own-tab f h) (get_or-tab (loads_at f v) 0 201 k zero3 (let n = h.rows in let m = h.few-rows in omega arith) ∙ (let z : 0 + k ≡ k = omega arith in rw z))
 
 -- the currents of a known feeder stand at its nodes alone
-pub currents-spare : {g : Network} (known : Known g) (v : List Three) (r : Worked) (i : List Three) → ((f : Feeder) → Held f g → WorkedIs f v r i) → r.work ≡ Fine → Spare g.rows i
+pub currents-spare : {g : Network} (known : Known g) (v : List Three) (r : Result Pair WorkError) (i : List Three) → ((f : Feeder) → Held f g → WorkedIs f v r i) → OnOk r (Spare g.rows i)
 unfolding currents
-currents-spare known v r i of fine =
+currents-spare known v r i of =
     let f = known.feeder in
-    let e = (of f known.held).currents-are fine in
     let n : length (currents f v) ≡ suc (row_count f) = length-tab _ 0 (suc (row_count f)) in
     let m = known.held.rows in
     let few = known.held.few-rows in
-    rw e (record {
+    on_ok_weaker r (λ (e : i ≡ kept zero3 201 (currents f v)). rw e (record {
       long = length-kept zero3 201 (currents f v);
       behind = λ k q. get_or_kept zero3 201 (currents f v) k (omega arith) ∙ get_or-behind (currents f v) k zero3 (omega arith);
-    })
+    })) (of f known.held).currents-are
 
--- ---- the answer by the states of the rows
+-- ---- the answer by what the rows draw
 not-true-of : {a b : Bool} → a ≡ not b → a ≡ true → b ≡ false
 not-true-of {b = true} e t = sym t ∙ e
 not-true-of {b = false} e t = refl
@@ -119,52 +121,50 @@ not-false-of : {a b : Bool} → a ≡ not b → a ≡ false → b ≡ true
 not-false-of {b = true} e t = refl
 not-false-of {b = false} e t = sym t ∙ e
 
-is_zero : (a b : Bool) → state_of a b ≡ AtZero → a ≡ true
-is_zero true b e = refl
-is_zero false true e = let z : ◌≡◌ {A = ℕ} 0 1 = cc in absurd (omega arith)
-is_zero false false e = let z : ◌≡◌ {A = ℕ} 0 1 = cc in absurd (omega arith)
+draw-ok : (a b : Bool) (p drawn : Pair) → draw_of a b p ≡ Ok drawn → (a ≡ false) × (b ≡ false) × (drawn ≡ p)
+draw-ok true b p drawn e = let z : ◌≡◌ {A = ℕ} 0 1 = cc in absurd (omega arith)
+draw-ok false true p drawn e = let z : ◌≡◌ {A = ℕ} 0 1 = cc in absurd (omega arith)
+draw-ok false false p drawn e = (refl, refl, cc)
 
-is-beyond : (a b : Bool) → state_of a b ≡ Beyond → (a ≡ false) × (b ≡ true)
-is-beyond true b e = let z : ◌≡◌ {A = ℕ} 0 1 = cc in absurd (omega arith)
-is-beyond false true e = (refl, refl)
-is-beyond false false e = let z : ◌≡◌ {A = ℕ} 0 1 = cc in absurd (omega arith)
+draw-err : (a b c : Bool) (p : Pair) (x : LoadError) → draw_of a b p ≡ Err x → Err (work_error x) ≡ work_of a b c p
+draw-err true b c p x e = let z : ◌≡◌ {A = LoadError} AtZero x = cc in ap (λ (y : LoadError). Err (work_error y)) (sym z)
+draw-err false true c p x e = let z : ◌≡◌ {A = LoadError} Beyond x = cc in ap (λ (y : LoadError). Err (work_error y)) (sym z)
+draw-err false false c p x e = let z : ◌≡◌ {A = ℕ} 0 1 = cc in absurd (omega arith)
 
-is-fine : (a b : Bool) → state_of a b ≡ FineDraws → (a ≡ false) × (b ≡ false)
-is-fine true b e = let z : ◌≡◌ {A = ℕ} 0 1 = cc in absurd (omega arith)
-is-fine false true e = let z : ◌≡◌ {A = ℕ} 0 1 = cc in absurd (omega arith)
-is-fine false false e = (refl, refl)
-
-pub no_zero : ZeroVoltage ≡ Fine → ⊥
-no_zero e = let z : ◌≡◌ {A = ℕ} 0 1 = cc in omega arith
-
-pub no-load : LoadBeyond ≡ Fine → ⊥
-no-load e = let z : ◌≡◌ {A = ℕ} 0 1 = cc in omega arith
-
-pub no-current : CurrentBeyond ≡ Fine → ⊥
-no-current e = let z : ◌≡◌ {A = ℕ} 0 1 = cc in omega arith
-
-module _ (f : Feeder) (v : List Three) (d : Draws) (own : List Three) (of : DrawsOf f v d own) (r : Worked) (i : List Three) where
+module _ (f : Feeder) (v : List Three) (d : Result Pair LoadError) (own : List Three) (of : DrawsOf f v d own) (i : List Three) where
   -- what is refused has no currents
-  refused-work : (w : Work) → (w ≡ Fine → ⊥) → r.work ≡ w → w ≡ work_of (zero_voltage f v) (load_beyond f v) (current_beyond f (currents f v)) → WorkedIs f v r i
-  refused-work w never e q = record { work-is = e ∙ q; currents-are = λ t. absurd (never (sym e ∙ t)); drawn-is = λ t. absurd (never (sym e ∙ t)) }
+  pub worked-refused : (x : LoadError) → d ≡ Err x → WorkedIs f v (Err (work_error x)) i
+  worked-refused x e = record { work-is = draw-err (zero_voltage f v) (load_beyond f v) _ _ x (sym of.draw-is ∙ e); currents-are = tt }
 
-  pub worked-zero : d.state ≡ AtZero → r.work ≡ ZeroVoltage → WorkedIs f v r i
-  worked-zero s e = refused-work ZeroVoltage no_zero e (rw (is_zero (zero_voltage f v) (load_beyond f v) (sym of.state ∙ s)))
-
-  pub worked-beyond : d.state ≡ Beyond → r.work ≡ LoadBeyond → WorkedIs f v r i
-  worked-beyond s e = let w = is-beyond (zero_voltage f v) (load_beyond f v) (sym of.state ∙ s) in refused-work LoadBeyond no-load e (rw (w.0, w.1))
-
-  module _ (ok : Bool) (up : UpwardIs f (loads_at f v) ok i) (fine : d.state ≡ FineDraws) where
-    pub worked-over : ok ≡ false → r.work ≡ CurrentBeyond → WorkedIs f v r i
+  module _ (ok : Bool) (up : UpwardIs f (loads_at f v) ok i) (drawn : Pair) (fine : d ≡ Ok drawn) where
+    pub worked-over : ok ≡ false → WorkedIs f v (Err CurrentBeyond) i
     unfolding currents
-    worked-over o e =
-        let w = is-fine (zero_voltage f v) (load_beyond f v) (sym of.state ∙ fine) in
+    worked-over o =
+        let w = draw-ok (zero_voltage f v) (load_beyond f v) _ drawn (sym of.draw-is ∙ fine) in
         let q : current_beyond f (currents f v) ≡ true = not-false-of up.ok-is o in
-        refused-work CurrentBeyond no-current e (rw (w.0, w.1, q))
+        record { work-is = rw (w.0, w.1, q); currents-are = tt }
 
-    pub worked-fine : ok ≡ true → r.work ≡ Fine → r.drawn ≡ d.drawn → WorkedIs f v r i
+    pub worked-fine : ok ≡ true → WorkedIs f v (Ok drawn) i
     unfolding currents
-    worked-fine o e s =
-        let w = is-fine (zero_voltage f v) (load_beyond f v) (sym of.state ∙ fine) in
+    worked-fine o =
+        let w = draw-ok (zero_voltage f v) (load_beyond f v) _ drawn (sym of.draw-is ∙ fine) in
         let q : current_beyond f (currents f v) ≡ false = not-true-of up.ok-is o in
-        record { work-is = e ∙ rw (w.0, w.1, q); currents-are = λ t. up.at-is o; drawn-is = λ t. s ∙ of.drawn fine }
+        record { work-is = rw (w.0, w.1, q, w.2); currents-are = up.at-is o }
+
+-- ---- what the answer says
+-- currents, and the power drawn with them: none of 30 to 32 holds
+pub record Workable (f : Feeder) (v : List Three) (drawn : Pair) (i : List Three) : Type 0 where
+  pub t30 : zero_voltage f v ≡ false
+  pub t31 : load_beyond f v ≡ false
+  pub t32 : current_beyond f (currents f v) ≡ false
+  pub drawn-is : drawn ≡ drawn_power f v
+  pub currents-are : i ≡ kept zero3 201 (currents f v)
+
+pub workable : (f : Feeder) (v : List Three) (drawn : Pair) (i : List Three) → WorkedIs f v (Ok drawn) i → Workable f v drawn i
+workable f v drawn i h = go (zero_voltage f v) (load_beyond f v) (current_beyond f (currents f v)) refl refl refl h.work-is
+  where
+    go : (a b c : Bool) → zero_voltage f v ≡ a → load_beyond f v ≡ b → current_beyond f (currents f v) ≡ c → Ok drawn ≡ work_of a b c (drawn_power f v) → Workable f v drawn i
+    go true b c p q r e = let z : ◌≡◌ {A = ℕ} 0 1 = cc in absurd (omega arith)
+    go false true c p q r e = let z : ◌≡◌ {A = ℕ} 0 1 = cc in absurd (omega arith)
+    go false false true p q r e = let z : ◌≡◌ {A = ℕ} 0 1 = cc in absurd (omega arith)
+    go false false false p q r e = record { t30 = p; t31 = q; t32 = r; drawn-is = cc; currents-are = h.currents-are }

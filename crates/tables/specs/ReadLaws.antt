@@ -1,20 +1,15 @@
--- Laws of the table readers' answers. Assumes nothing.
-use Rattle.std.specs.Prelude.{List, ◌≡◌, ℕ}
-use Rattle.std.proofs.Common.{subst, arith}
-use Rattle.answers.specs.Answers.{Outcome, refused}
-use Rattle.answers.specs.declared.Refusal.TheVariants.{Layout}
-use Rattle.tables.specs.Read.{TableAs, TableRead, Whole}
-use Rattle.tables.specs.declared.TableEnd.{TableEnd}
-use Rattle.tables.specs.declared.TableEnd.TheVariants.{At as Ends, Bad as Fails}
+-- What was found, or the refusal where nothing was found. Assumes nothing.
+use Rattle.std.specs.Prelude.{◌≡◌, refl, Option, Some, None, Ok, Err}
+use Rattle.std.specs.Option.{ok_or}
+use Rattle.std.proofs.Common.{ap, sym}
+use Rattle.answers.specs.AnswerLaws.{not-refused, not_good, same-refused, same_good}
+use Rattle.answers.specs.Answers.{Outcome}
+use Rattle.answers.specs.declared.Refusal.{Refusal}
 
--- a table that fails at a line has no place behind it
-pub no_end : {P : Type 0} (e : TableEnd) (n p : ℕ) → e ≡ Fails n → e ≡ Ends p → P
-no_end e n p b a = let z : ◌≡◌ {A = ℕ} 0 1 = cc in absurd (omega arith)
+pub found-some : {X : Type 0} (o : Option X) (r : Refusal) (x : X) → ◌≡◌ {A = Outcome X} (Ok x) (ok_or o r) → o ≡ Some x
+found-some {X} (Some y) r x e = ap (λ (z : X). Some z) (same_good y x (sym e))
+found-some None r x e = not-refused r x (sym e)
 
--- what a table's answer says, by its end
-module _ {X Y : Type 0} {holds : List X → Type 0} {made : List X → ℕ → Y} {o : Outcome Y} {end : TableEnd} {count : ℕ} (h : TableRead holds made o end count) where
-  pub table-ends : (p : ℕ) → end ≡ Ends p → Whole holds made o p count
-  table-ends p e = subst (λ (z : TableEnd). TableAs holds made o z count) e h.said
-
-  pub table-fails : (n : ℕ) → end ≡ Fails n → o ≡ refused (Layout n)
-  table-fails n e = subst (λ (z : TableEnd). TableAs holds made o z count) e h.said
+pub found-none : {X : Type 0} (o : Option X) (r y : Refusal) → ◌≡◌ {A = Outcome X} (Err y) (ok_or o r) → (o ≡ None) × (y ≡ r)
+found-none (Some x) r y e = not_good x y (sym e)
+found-none None r y e = (refl, same-refused y r e)

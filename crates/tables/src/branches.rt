@@ -1,21 +1,15 @@
 // The branch table as a part of the file.
-ghost use Rattle.std.specs.Prelude.{◌≡◌, List, ◌++◌, ◌∷◌, [], ℕ, ◌+◌, ◌<◌, ◌≤◌, length};
+ghost use Rattle.std.specs.Prelude.{◌≡◌, List, ◌++◌, ◌∷◌, [], ℕ, ◌+◌, ◌<◌, ◌≤◌, length, IfOk};
 ghost use Rattle.feeder.specs.Layout.{branch_table};
 ghost use Rattle.feeder.specs.declared.BranchRow.{BranchRow};
 ghost use Rattle.arrays.specs.Arrays.{branch_numbers};
 ghost use Rattle.tables.specs.Read.{BranchesHeld, BranchesRead, branches_from};
 
-use crate::TableEnd;
+use answers::Refusal;
 use arrays::{Branches, Names};
 use rows::branches::read_branch;
-use text::lines::{Next, stands, stands_empty};
-
-// The place behind the table or the line that cannot stand there, and the number of its rows.
-#[derive(Clone, Copy)]
-pub struct BranchTable {
-    pub end: TableEnd,
-    pub count: usize,
-}
+use text::Placed;
+use text::lines::{stands, stands_empty};
 
 // One row more behind the n that were stored, if it finds a place.
 fn store(
@@ -31,14 +25,15 @@ fn store(
         BranchesHeld source froms.old nodes.old branches.old l →
         BranchesHeld source froms.new nodes.new branches.new (l ++ (x ∷ [])) }
 {
-    if n < 200 {
+    let room = n < 200;
+    if room {
         froms[n + 1] = from;
         nodes[n + 1] = to;
         branches[n + 1] = numbers;
     }
 }
 
-// The rows of the table up to the empty line behind it. Those past 200 are read and counted, and not kept.
+// The number of the table's rows up to the empty line behind it. Those past 200 are read and counted, and not kept.
 fn read_rows(
     part: &[u8],
     from: usize,
@@ -46,55 +41,45 @@ fn read_rows(
     froms: &mut Names,
     nodes: &mut Names,
     branches: &mut Branches,
-) -> BranchTable
+) -> Result<Placed<usize>, Refusal>
     requires reach { (0 < from) × (from ≤ length part.now) }
     requires none { BranchesHeld source froms.old nodes.old branches.old [] }
     ensures value { BranchesRead (branches_from part.now from) result source froms.new nodes.new branches.new }
-    ensures past { (p : ℕ) → result.end ≡ TableEnd.At p → (result.count + from < p) × (p ≤ length part.now) }
+    ensures past { IfOk result (λ x. (x.0 + from < x.1) × (x.1 ≤ length part.now)) }
 {
     let mut at = from;
     let mut n = 0;
+    // A while, since the number of rows shows only at the table's end.
     while !stands_empty(part, at) {
-        let row = read_branch(part, at);
-        let end = row.end;
-        let Next::Behind(next) = end else {
-            return BranchTable {
-                end: TableEnd::Bad(5 + n),
-                count: n,
-            };
+        let Some((row, next)) = read_branch(part, at) else {
+            return Err(Refusal::Layout(5 + n));
         };
-        let numbers = row.numbers;
-        store(n, row.from, row.to, numbers, froms, nodes, branches);
+        store(n, row.from, row.to, row.numbers, froms, nodes, branches);
         at = next;
         n += 1;
     }
-    BranchTable {
-        end: TableEnd::At(at + 1),
-        count: n,
-    }
+    Ok((n, at + 1))
 }
 
-// The branch table, from the start of a part of the file, into arrays that hold the source's name and no row.
+// The branch table, from the start of a part of the file, into arrays that hold the source's name and no row: the number of its rows, and the place
+// behind it.
 pub fn read_branches(
     part: &[u8],
     source: u64,
     froms: &mut Names,
     nodes: &mut Names,
     branches: &mut Branches,
-) -> BranchTable
+) -> Result<Placed<usize>, Refusal>
     requires { BranchesHeld source froms.old nodes.old branches.old [] }
     ensures value { BranchesRead (branch_table part.now) result source froms.new nodes.new branches.new }
-    ensures past { (p : ℕ) → result.end ≡ TableEnd.At p → (result.count + 6 ≤ p) × (p ≤ length part.now) }
+    ensures past { IfOk result (λ x. (x.0 + 6 ≤ x.1) × (x.1 ≤ length part.now)) }
 {
     if !stands(
         part,
         0,
         b"from,to,phases,kind,p1,p2,p3,p4,p5,p6,p7,p8,p9,p10,p11,p12\n",
     ) {
-        return BranchTable {
-            end: TableEnd::Bad(4),
-            count: 0,
-        };
+        return Err(Refusal::Layout(4));
     }
     read_rows(part, 59, source, froms, nodes, branches)
 }

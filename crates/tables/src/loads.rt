@@ -1,21 +1,14 @@
 // The load table as a part of the file.
-ghost use Rattle.std.specs.Prelude.{◌≡◌, List, ◌++◌, ◌∷◌, [], ◌+◌, ◌<◌, ◌≤◌, ◌^◌, length};
+ghost use Rattle.std.specs.Prelude.{◌≡◌, List, ◌++◌, ◌∷◌, [], ◌+◌, ◌<◌, ◌≤◌, ◌^◌, length, IfOk};
 ghost use Rattle.feeder.specs.Layout.{load_table};
 ghost use Rattle.feeder.specs.declared.LoadRow.{LoadRow};
 ghost use Rattle.arrays.specs.Arrays.{load_numbers};
 ghost use Rattle.tables.specs.Read.{LoadsHeld, LoadsRead, loads_from};
 
-use crate::TableEnd;
+use answers::Refusal;
 use arrays::{LoadNames, Loads};
 use rows::loads::read_load;
-use text::lines::{Next, stands};
-
-// The place behind the table or the line that cannot stand there, and the number of its rows.
-#[derive(Clone, Copy)]
-pub struct LoadTable {
-    pub end: TableEnd,
-    pub count: usize,
-}
+use text::lines::stands;
 
 // One row more behind the n that were stored, if it finds a place.
 fn store(n: usize, node: u64, numbers: [i64; 6], names: &mut LoadNames, loads: &mut Loads)
@@ -28,53 +21,47 @@ fn store(n: usize, node: u64, numbers: [i64; 6], names: &mut LoadNames, loads: &
     }
 }
 
-// The rows of the table up to the end of the file, behind a line. Those past 300 are read and counted, and not kept.
+// The number of the table's rows up to the end of the file, behind a line. Those past 300 are read and counted, and not kept.
 fn read_rows(
     part: &[u8],
     line: usize,
     from: usize,
     names: &mut LoadNames,
     loads: &mut Loads,
-) -> LoadTable
+) -> Result<usize, Refusal>
     requires reach { (0 < from) × (from ≤ length part.now) × (line + length part.now < 2 ^ 64) }
     requires none { LoadsHeld names.old loads.old [] }
     ensures value { LoadsRead (loads_from line part.now from) result names.new loads.new }
-    ensures few { result.count ≤ length part.now }
+    ensures few { IfOk result (λ n. n ≤ length part.now) }
 {
     let mut at = from;
     let mut n = 0;
+    // A while, since the number of rows shows only at the file's end.
     while at < part.len() {
-        let row = read_load(part, at);
-        let end = row.end;
-        let Next::Behind(next) = end else {
-            return LoadTable {
-                end: TableEnd::Bad(line + 1 + n),
-                count: n,
-            };
+        let Some((row, next)) = read_load(part, at) else {
+            return Err(Refusal::Layout(line + 1 + n));
         };
-        let numbers = row.numbers;
-        store(n, row.node, numbers, names, loads);
+        store(n, row.node, row.numbers, names, loads);
         at = next;
         n += 1;
     }
-    LoadTable {
-        end: TableEnd::At(at),
-        count: n,
-    }
+    Ok(n)
 }
 
-// The load table, from the start of a part of the file that begins in a line, into arrays that hold no row.
-pub fn read_loads(part: &[u8], line: usize, names: &mut LoadNames, loads: &mut Loads) -> LoadTable
+// The load table, from the start of a part of the file that begins in a line, into arrays that hold no row: the number of its rows.
+pub fn read_loads(
+    part: &[u8],
+    line: usize,
+    names: &mut LoadNames,
+    loads: &mut Loads,
+) -> Result<usize, Refusal>
     requires room { line + length part.now < 2 ^ 64 }
     requires none { LoadsHeld names.old loads.old [] }
     ensures value { LoadsRead (load_table line part.now) result names.new loads.new }
-    ensures few { result.count ≤ length part.now }
+    ensures few { IfOk result (λ n. n ≤ length part.now) }
 {
     if !stands(part, 0, b"node,phase,kind,vn,p,q\n") {
-        return LoadTable {
-            end: TableEnd::Bad(line),
-            count: 0,
-        };
+        return Err(Refusal::Layout(line));
     }
     read_rows(part, line, 23, names, loads)
 }

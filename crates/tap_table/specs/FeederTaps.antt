@@ -1,13 +1,12 @@
 -- Of arrays that hold a feeder: its own rows of the last table, and the taps that the table's rows give by node number. Assumes nothing.
 use Rattle.std.proofs.Math.Bool.{Bool, cond, false, not, true}
-use Rattle.std.specs.Prelude.{◌&&◌, ◌≡◌, pos, length}
+use Rattle.std.specs.Prelude.{◌&&◌, ◌≡◌, pos, length, Err}
 use mathlib.Core.List.{List, [], ◌∷◌, map}
 use Rattle.std.proofs.Common.{◌∙◌, eq-eqb, ne_eqb}
 use Rattle.std.proofs.Math.Path.{ap, refl, sym}
 use Prim.Native.Nat.{◌+◌, ◌-◌, ◌<◌, ◌≤◌, suc, zero, ℕ}
 use native.Mathlib.Omega.{arith}
 use Rattle.std.proofs.Math.ListN.{get_or-eq_default, get_or, length-map}
-use Rattle.answers.specs.Answers.{refused}
 use Rattle.answers.specs.declared.Refusal.TheVariants.{ReportLayout}
 use Rattle.arrays.specs.Arrays.{is_on}
 use Rattle.feeder.specs.Feeder.{Feeder, branch_at, level_of, no_branch, no_taps, place_of, regulates, regulators, row_count, rows_of, taps_on}
@@ -15,8 +14,7 @@ use Rattle.feeder.specs.Network.{branch_array, kept}
 use Rattle.feeder.specs.NetworkLaws.{get_or_kept, kept-below}
 use Rattle.feeder.proofs.TapLaws.{all-chosen, few-regulators}
 use Rattle.feeder.specs.declared.Branch.{Branch}
-use Rattle.feeder.specs.declared.Phases.{Phases}
-use Rattle.feeder.specs.declared.Taps.{Taps}
+use Rattle.feeder.specs.Phased.{Phases, Taps}
 use Rattle.integers.specs.Bools.{clash}
 use Rattle.integers.specs.ListLaws.{all-tab}
 use Rattle.integers.specs.Lists.{All, all, any, chosen, count, tab}
@@ -112,7 +110,7 @@ module _ (f : Feeder) (few : row_count f ≤ 200) where
       let z : suc (row_count f) - 1 ≡ row_count f = omega arith in
       λ i. any (λ k. not (inside 0 (level_of (array_at k i).device))) (count 1 (z i))
 
-  pub levels-refused : levels_from (branch_array f) 1 (row_count f) ≡ true → unfiled_taps f ≡ refused ReportLayout
+  pub levels-refused : levels_from (branch_array f) 1 (row_count f) ≡ true → unfiled_taps f ≡ Err ReportLayout
   unfolding unfiled_taps
   levels-refused e = rw (sym levels-held ∙ e) refl
 

@@ -2,6 +2,7 @@
 pub mod TapTable
 pub mod OwnRows
 -- Laws
+pub mod AnswerLaws
 pub mod TapRowLaws
 pub mod TapTableLaws
 pub mod Regulators

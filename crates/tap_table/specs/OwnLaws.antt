@@ -14,12 +14,13 @@ use Rattle.feeder.specs.Network.{kept}
 use Rattle.feeder.specs.NetworkLaws.{kept_next}
 use Rattle.feeder.proofs.TapLaws.{length-chosen}
 use Rattle.feeder.specs.declared.Branch.{Branch}
-use Rattle.feeder.specs.declared.Taps.{Taps}
+use Rattle.feeder.specs.Phased.{Taps}
 use Rattle.integers.specs.ListLaws.{length-tab}
 use Rattle.integers.specs.Lists.{all, any, chosen, count, tab}
 use Rattle.report.specs.Report.{taps_fit}
 use Rattle.tap_table.specs.OwnRows.{OwnBefore, OwnHeld, fits_from, given_at, given_taps, levels_from, regulators_before}
-use Rattle.tap_table.specs.Regulators.{regulates_in, regulators_from}
+use Rattle.std.specs.List.{list_any, range_with_len}
+use Rattle.tap_table.specs.Regulators.{list-any, numbers-from, regulates_in, regulators_from}
 use Rattle.tap_table.specs.TapTable.{taps_at, taps_of}
 
 -- ---- a list of numbers, one more at its end
@@ -38,14 +39,11 @@ chosen_last c (y ∷ l) x = go (c y) (chosen_last c l x)
     go false e = e
 
 -- ---- levels
-module _ (bs : List Branch) (k n : ℕ) where
-  pub levels-next : k ≤ n → levels_from bs k n ≡ cond (is_on (level_of (get_or bs k no_branch).device)) true (levels_from bs (k + 1) n)
-  unfolding levels_from any count tab
-  levels-next h = let e : suc n - k ≡ suc (suc n - (k + 1)) = omega arith in rw e refl
-
-  pub levels-none : n < k → levels_from bs k n ≡ false
-  unfolding levels_from any count tab
-  levels-none h = let e : suc n - k ≡ 0 = omega arith in rw e refl
+pub levels-any : (bs : List Branch) (n : ℕ) → list_any (λ k. is_on (level_of (get_or bs k no_branch).device)) (range_with_len 1 n) ≡ levels_from bs 1 n
+unfolding levels_from count
+levels-any bs n =
+    let z : suc n - 1 ≡ n = omega arith in
+    rw z (list-any _ (range_with_len 1 n) ∙ ap (any (λ k. is_on (level_of (get_or bs k no_branch).device))) (numbers-from 1 n))
 
 -- ---- the regulators in front of a row
 module _ (bs : List Branch) where

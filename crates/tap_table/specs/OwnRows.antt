@@ -4,7 +4,7 @@ use Rattle.arrays.specs.Arrays.{is_on}
 use Rattle.feeder.specs.Feeder.{level_of, no_branch, no_taps, taps_on}
 use Rattle.feeder.specs.Network.{kept}
 use Rattle.feeder.specs.declared.Branch.{Branch}
-use Rattle.feeder.specs.declared.Taps.{Taps}
+use Rattle.feeder.specs.Phased.{Taps}
 use Rattle.integers.specs.Lists.{all, any, chosen, count, tab}
 use Rattle.report.specs.Report.{taps_fit}
 use Rattle.tap_table.specs.Regulators.{regulates_in}

@@ -3,22 +3,12 @@ ghost use Rattle.std.specs.Prelude.{cond, true, ◌≡◌, ◌≤◌, get_or, re
 ghost use Rattle.arrays.specs.Arrays.{branches_of};
 ghost use Rattle.feeder.specs.Feeder.{no_taps};
 ghost use Rattle.tap_table.specs.OwnRows.{fits_from, given_taps};
-ghost use Rattle.tap_table.specs.TapTable.{taps_at, taps_of};
+ghost use Rattle.tap_table.specs.TapTable.{taps_of};
 
-use crate::taps::{TapRows, one_if, store_taps, taps_fit};
+use crate::taps::{TapRows, row_taps, store_taps, taps_fit};
 use arrays::{Branches, phases_at};
 use branch_taps::regulates_at;
 use feeder::Taps;
-
-// The taps of a stored row.
-pub fn row_taps(n: &[i64; 3]) -> Taps
-    ensures { result ≡ taps_at n.now }
-{
-    let a = n[0];
-    let b = n[1];
-    let c = n[2];
-    Taps { a, b, c }
-}
 
 // What the table's row at place j gives a branch: nothing, where it is no regulator.
 fn given_taps(here: bool, table: &TapRows, j: usize) -> Taps
@@ -26,10 +16,10 @@ fn given_taps(here: bool, table: &TapRows, j: usize) -> Taps
     ensures { result ≡ cond here (get_or (taps_of table.now) j no_taps) no_taps }
 {
     if here {
-        let n = table[j];
-        return row_taps(&n);
+        row_taps(&table[j])
+    } else {
+        Taps { a: 0, b: 0, c: 0 }
     }
-    Taps { a: 0, b: 0, c: 0 }
 }
 
 // The rows stand in the table one behind the other. Whether the taps of each fit the phases of its branch.
@@ -40,8 +30,7 @@ pub fn taps_by_node(branches: &Branches, rows: usize, table: &TapRows, taps: &mu
     ensures held { result ≡ true → taps_of taps.new ≡ given_taps (branches_of branches.now) (taps_of table.now) rows }
 {
     let mut j = 0;
-    let mut k = 1;
-    while k <= rows {
+    for k in 1..rows + 1 {
         let here = regulates_at(branches, k);
         let given = given_taps(here, table, j);
         let phases = phases_at(branches, k);
@@ -49,8 +38,7 @@ pub fn taps_by_node(branches: &Branches, rows: usize, table: &TapRows, taps: &mu
             return false;
         }
         store_taps(taps, k, given);
-        j += one_if(here);
-        k += 1;
+        j += here as usize;
     }
     true
 }

@@ -15,14 +15,7 @@ fn any_level(branches: &Branches, rows: usize) -> bool
     requires { rows ≤ 200 }
     ensures { result ≡ levels_from (branches_of branches.now) 1 rows }
 {
-    let mut k = 1;
-    while k <= rows {
-        if level_at(branches, k) {
-            return true;
-        }
-        k += 1;
-    }
-    false
+    (1..rows + 1).any(|k| level_at(branches, k))
 }
 
 // Stores the name and the taps of branch row k at place j, where it is a regulator, and answers the next place.
@@ -66,10 +59,8 @@ pub fn own_taps(
         return false;
     }
     let mut j = 0;
-    let mut k = 1;
-    while k <= rows {
+    for k in 1..rows + 1 {
         j = own_row(nodes, branches, k, j, names, taps);
-        k += 1;
     }
     true
 }

@@ -1,5 +1,5 @@
 // The last table: a row for each regulator.
-ghost use Rattle.std.specs.Prelude.{◌≡◌, cond, false, ◌≤◌, length, replicate, set};
+ghost use Rattle.std.specs.Prelude.{◌≡◌, ◌≤◌, length, replicate, set};
 ghost use Rattle.arrays.specs.Arrays.{branches_of};
 ghost use Rattle.tap_table.specs.Regulators.{regulators_from, tap_fits};
 ghost use Rattle.tap_table.specs.TapTable.{TapRowIs, TapsAre, taps_at, taps_of};
@@ -10,63 +10,40 @@ use arrays::{Branches, Names};
 use branch_taps::regulates_at;
 use feeder::{Phases, Taps};
 use integers::whole;
-use text::Word;
-use text::lines::{Next, read_numbers, stands};
+use text::Placed;
+use text::lines::{read_numbers, stands};
 use text::read::read_name;
 
 // The taps of the table's rows.
 pub type TapRows = [[i64; 3]; 201];
 
-// Where `ok`, a row and the place behind it: the name and the taps.
+// A row: the name and the taps.
 #[derive(Clone, Copy)]
 pub struct TapRow {
-    pub ok: bool,
-    pub next: usize,
     pub name: u64,
     pub taps: Taps,
 }
 
-// Three numbers, as a tap for each phase.
-fn taps_of(values: &[i64]) -> Taps
-    requires { 3 ≤ length values.now }
-    ensures { result ≡ taps_at values.now }
+// The taps of a stored row: three numbers, as a tap for each phase.
+pub fn row_taps(n: &[i64; 3]) -> Taps
+    ensures { result ≡ taps_at n.now }
 {
-    let a = values[0];
-    let b = values[1];
-    let c = values[2];
-    Taps { a, b, c }
-}
-
-fn no_tap_row() -> TapRow
-    ensures { result.ok ≡ false }
-{
-    let taps = Taps { a: 0, b: 0, c: 0 };
-    TapRow {
-        ok: false,
-        next: 0,
-        name: 0,
-        taps,
+    Taps {
+        a: n[0],
+        b: n[1],
+        c: n[2],
     }
 }
 
 // The row at a place.
-pub fn read_tap_row(s: &[u8], at: usize) -> TapRow
+pub fn read_tap_row(s: &[u8], at: usize) -> Option<Placed<TapRow>>
     ensures { TapRowIs s.now at result }
 {
-    let Word::Name(name, p) = read_name(s, at, 44) else {
-        return no_tap_row();
-    };
+    let (name, p) = read_name(s, at, b',')?;
     let mut values = [0i64; 3];
-    let Next::Behind(next) = read_numbers(s, p, &mut values) else {
-        return no_tap_row();
-    };
-    let taps = taps_of(&values);
-    TapRow {
-        ok: true,
-        next,
-        name,
-        taps,
-    }
+    let next = read_numbers(s, p, &mut values)?;
+    let taps = row_taps(&values);
+    Some((TapRow { name, taps }, next))
 }
 
 // Stores the taps of a row at place k.
@@ -74,11 +51,11 @@ pub fn store_taps(taps: &mut TapRows, k: usize, x: Taps)
     requires { k ≤ 200 }
     ensures { taps_of taps.new ≡ set (taps_of taps.old) k x }
 {
-    let n = [x.a, x.b, x.c];
-    taps[k] = n;
+    taps[k] = [x.a, x.b, x.c];
 }
 
-// The table of just so many rows, from the start of a part of the report, which has to end with it.
+// Whether the table of just so many rows stands at the start of a part of the report, which has to end with it.
+// A bool and not an Option, since nothing is handed back but whether it stands there.
 pub fn read_tap_table(part: &[u8], count: usize, names: &mut Names, taps: &mut TapRows) -> bool
     requires count_bound { count ≤ 200 }
     requires names_value { names.old ≡ replicate 201 0 }
@@ -89,28 +66,15 @@ pub fn read_tap_table(part: &[u8], count: usize, names: &mut Names, taps: &mut T
         return false;
     }
     let mut at = 21;
-    let mut k = 0;
-    while k < count {
-        let row = read_tap_row(part, at);
-        if !row.ok {
+    for k in 0..count {
+        let Some((row, next)) = read_tap_row(part, at) else {
             return false;
-        }
+        };
         names[k] = row.name;
         store_taps(taps, k, row.taps);
-        at = row.next;
-        k += 1;
+        at = next;
     }
-    let behind = at != part.len();
-    if behind {
-        return false;
-    }
-    true
-}
-
-pub fn one_if(b: bool) -> usize
-    ensures { result ≡ cond b 1 0 }
-{
-    if b { 1 } else { 0 }
+    at == part.len()
 }
 
 // How many of the branch rows are regulators: the rows that the table has.
@@ -119,38 +83,19 @@ pub fn regulator_count(branches: &Branches, rows: usize) -> usize
     ensures value { result ≡ length (regulators_from (branches_of branches.now) 1 rows) }
     ensures few { result ≤ 200 }
 {
-    let mut n = 0;
-    let mut k = 1;
-    while k <= rows {
-        let here = regulates_at(branches, k);
-        n += one_if(here);
-        k += 1;
-    }
-    n
+    (1..rows + 1).filter(|k| regulates_at(branches, *k)).count()
 }
 
 // Whether a tap is within ±16, and 0 on an absent phase.
 fn tap_fits(present: bool, tap: i64) -> bool
     ensures { result ≡ tap_fits present tap }
 {
-    if !whole::inside(tap, 16) {
-        return false;
-    }
-    if present {
-        return true;
-    }
-    whole::inside(tap, 0)
+    whole::inside(tap, 16) && (present || whole::inside(tap, 0))
 }
 
 // The same of a row's taps.
 pub fn taps_fit(phases: Phases, t: Taps) -> bool
     ensures { result ≡ taps_fit phases t }
 {
-    if !tap_fits(phases.a, t.a) {
-        return false;
-    }
-    if !tap_fits(phases.b, t.b) {
-        return false;
-    }
-    tap_fits(phases.c, t.c)
+    tap_fits(phases.a, t.a) && tap_fits(phases.b, t.b) && tap_fits(phases.c, t.c)
 }

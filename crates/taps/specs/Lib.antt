@@ -1,2 +1,4 @@
+-- Definitions
+pub mod Seen
 -- Laws
 pub mod MovedTaps

@@ -11,9 +11,8 @@ use Rattle.feeder.specs.declared.Device.{Device}
 use Rattle.feeder.specs.declared.Device.TheVariants.{Line, Regulator, Transformer}
 use Rattle.feeder.specs.declared.Phase.{Phase}
 use Rattle.feeder.specs.declared.Phase.TheVariants.{A, B, C}
-use Rattle.feeder.specs.declared.Phases.{Phases}
+use Rattle.feeder.specs.Phased.{Phases, Three}
 use Rattle.feeder.specs.declared.TapChanger.{TapChanger}
-use Rattle.feeder.specs.declared.Three.{Three}
 use Rattle.integers.specs.Pairs.{inside}
 
 either : (c : Bool) (x y : ℤ) → nat_abs x ≤ 16 → nat_abs y ≤ 16 → nat_abs (cond c x y) ≤ 16

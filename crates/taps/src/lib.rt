@@ -1,14 +1,14 @@
 // Regulators that set their taps: the relay voltage, what a phase wants, and the taps after a move. Crate equations, specs/Taps.antt, says each of them.
 #![tactic(auto)]
 
-ghost use Rattle.std.specs.Prelude.{◌≡◌, ◌≤◌, ◌-ℤ◌, nat_abs, cond, false};
+ghost use Rattle.std.specs.Prelude.{◌≡◌, ◌≤◌, nat_abs, cond};
 ghost use Rattle.std.specs.Int.{w64};
 ghost use Rattle.std.proofs.Common.{SFits};
-ghost use Rattle.equations.specs.Limits.{ChangerOk, RelayOk, TapsOk};
+ghost use Rattle.equations.specs.Limits.{ChangerOk, RelayOk};
 ghost use Rattle.equations.specs.Sizes.{Within3};
 ghost use Rattle.equations.specs.Taps.{moved_tap, moved_taps, relay_voltage, same_taps, stepped, wants_down, wants_up};
 ghost use Rattle.integers.specs.PairLaws.{Within};
-ghost use Rattle.integers.specs.Pairs.{inside};
+ghost use Rattle.taps.specs.Seen.{Seen};
 
 use feeder::{Phases, TapChanger, Taps, Three};
 use integers::{Pair, pairs, whole};
@@ -31,9 +31,7 @@ fn relay_voltage(x: TapChanger, u: Pair, i: Pair) -> Pair
 
 // Whether 4·(re² + im²) is below (2·level - band)², the bracket not being negative.
 fn wants_up(x: TapChanger, r: Pair) -> bool
-    requires level_bound { nat_abs x.level ≤ 20000 }
-    requires band_bound { nat_abs x.band ≤ 20000 }
-    requires within { Within 42000000 r }
+    requires { Seen x r }
     ensures { result ≡ wants_up x r }
 {
     let twice = whole::mul(2, x.level);
@@ -49,9 +47,7 @@ fn wants_up(x: TapChanger, r: Pair) -> bool
 
 // Whether it is above (2·level + band)².
 fn wants_down(x: TapChanger, r: Pair) -> bool
-    requires level_bound { nat_abs x.level ≤ 20000 }
-    requires band_bound { nat_abs x.band ≤ 20000 }
-    requires within { Within 42000000 r }
+    requires { Seen x r }
     ensures { result ≡ wants_down x r }
 {
     let twice = whole::mul(2, x.level);
@@ -74,9 +70,7 @@ fn stepped(step: i64, tap: i64) -> i64
 
 // A tap after a move, where the relay sees r.
 fn moved_tap(x: TapChanger, r: Pair, tap: i64) -> i64
-    requires level_bound { nat_abs x.level ≤ 20000 }
-    requires band_bound { nat_abs x.band ≤ 20000 }
-    requires within { Within 42000000 r }
+    requires seen { Seen x r }
     requires tap_bound { nat_abs tap ≤ 16 }
     ensures value { result ≡ moved_tap x r tap }
     ensures fits { SFits w64 result }
@@ -124,26 +118,9 @@ pub fn moved_taps(x: TapChanger, f: Phases, u: Three, i: Three) -> Taps
     Taps { a, b, c }
 }
 
-// Whether two taps are the same, and whether all three are.
-fn same_tap(a: i64, b: i64) -> bool
-    requires a_bound { nat_abs a ≤ 16 }
-    requires b_bound { nat_abs b ≤ 16 }
-    ensures { result ≡ inside 0 (a -ℤ b) }
-{
-    let d = whole::sub(a, b);
-    whole::inside(d, 0)
-}
-
+// Whether all three taps are the same.
 pub fn same_taps(t: Taps, u: Taps) -> bool
-    requires taps_ok { TapsOk t }
-    requires taps_ok_2 { TapsOk u }
     ensures { result ≡ same_taps t u }
 {
-    if !same_tap(t.a, u.a) {
-        return false;
-    }
-    if !same_tap(t.b, u.b) {
-        return false;
-    }
-    same_tap(t.c, u.c)
+    t == u
 }

@@ -1,7 +1,6 @@
 -- A line that was written is read back: its names, its numbers, and both as a row. Assumes nothing.
-use Rattle.std.specs.Prelude.{List, [], ◌++◌, ◌∷◌, map, ◌≡◌, refl, ◌+◌, ◌<◌, suc, ℕ, ℤ, drop, length}
+use Rattle.std.specs.Prelude.{List, [], ◌++◌, ◌∷◌, map, ◌≡◌, refl, ◌+◌, ◌<◌, suc, ℕ, ℤ, drop, length, Ok}
 use Rattle.std.proofs.Common.{append_assoc, ◌∙◌, add_assoc, not-suc-le-zero, arith, length-append, ne_eqb}
-use Rattle.answers.specs.Answers.{good}
 use Rattle.answers.specs.declared.Refusal.{Refusal}
 use Rattle.integers.specs.Lists.{All}
 use Rattle.text.specs.LineLaws.{names-cons, names-none, numbers-cons, numbers-nil, row-good}
@@ -24,7 +23,7 @@ behind-field : (at : ℕ) (d : List ℕ) (sep : ℕ) (m : List ℕ) → at + len
 behind-field at d sep m = simp length-append (omega arith)
 
 pub numbers-of-line : (r : Refusal) (z : ℤ) (zs : List ℤ) → All Small (z ∷ zs) → (s : List ℕ) (at : ℕ) (t : List ℕ) →
-    drop at s ≡ line (map decimal (z ∷ zs)) ++ t → numbers r (suc (length zs)) s at ≡ good (z ∷ zs, at + length (line (map decimal (z ∷ zs))))
+    drop at s ≡ line (map decimal (z ∷ zs)) ++ t → numbers r (suc (length zs)) s at ≡ Ok (z ∷ zs, at + length (line (map decimal (z ∷ zs))))
 numbers-of-line r z [] h s at t e =
     let d = decimal z in
     let p = at + length d + 1 in
@@ -44,7 +43,7 @@ numbers-of-line r z (y ∷ zs) h s at t e =
 -- the names in front of the other fields of a line, and what is left of it behind them
 pub record Fronted (r : Refusal) (vs : List ℕ) (fields : List (List ℕ)) (s : List ℕ) (at : ℕ) (t : List ℕ) : Type 0 where
   pub place : ℕ
-  pub named : names r (length vs) s at ≡ good (vs, place)
+  pub named : names r (length vs) s at ≡ Ok (vs, place)
   pub left : drop place s ≡ line fields ++ t
   pub whole : place + length (line fields) ≡ at + length (line (map (letters 8) vs ++ fields))
 
@@ -68,7 +67,7 @@ names-of-line r (v ∷ vs) fields h a s at t e =
 pub row-of-line : (r : Refusal) (vs : List ℕ) (z : ℤ) (zs : List ℤ) → All Proper vs → All Small (z ∷ zs) → (s : List ℕ) (at : ℕ) (t : List ℕ) →
     drop at s ≡ line (map (letters 8) vs ++ map decimal (z ∷ zs)) ++ t →
     row r (length vs) (suc (length zs)) s at
-    ≡ good (record { words = vs; values = z ∷ zs }, at + length (line (map (letters 8) vs ++ map decimal (z ∷ zs))))
+    ≡ Ok (record { words = vs; values = z ∷ zs }, at + length (line (map (letters 8) vs ++ map decimal (z ∷ zs))))
 row-of-line r vs z zs a b s at t e =
     let i = names-of-line r vs (map decimal (z ∷ zs)) (omega arith) a s at t e in
     let n = numbers-of-line r z zs b s i.place t i.left in

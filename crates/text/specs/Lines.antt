@@ -1,18 +1,10 @@
 -- Files (01): a line as a row of names and numbers, and lines that are given word for word. Assumes nothing.
-use Rattle.std.specs.Prelude.{cond, List, [], ◌++◌, ◌∷◌, map, ◌≡◌, ℕ, zero, suc, ◌+◌, ◌-◌, ◌<◌, eqb, ℤ, pos, length, get_or, drop}
+use Rattle.std.specs.Prelude.{cond, List, [], ◌++◌, ◌∷◌, map, ◌≡◌, ℕ, zero, suc, ◌+◌, ◌-◌, ◌<◌, eqb, ℤ, pos, length, get_or, drop, Ok, Err, Option, Some, None}
 use Prim.Native.String.{String}
-use Rattle.text.specs.declared.Field.{Field}
-use Rattle.text.specs.declared.Field.TheVariants.{Number, NotNumber}
-use Rattle.text.specs.declared.Word.{Word}
-use Rattle.text.specs.declared.Word.TheVariants.{Name, NoName}
 use Rattle.integers.specs.Lists.{All}
 use Rattle.answers.specs.declared.Refusal.{Refusal}
-use Rattle.answers.specs.Answers.{Outcome, good, refused, ◌>>=◌}
-use Rattle.text.specs.Text.{Proper, Small, bytes, number_at, name_at, begins, decimal, letters, line}
-
--- a value, and the place behind its text
-abbrev pub Placed : Type 0 → Type 0
-Placed X = X × ℕ
+use Rattle.answers.specs.Answers.{Outcome, ◌>>=◌}
+use Rattle.text.specs.Text.{Placed, Proper, Small, bytes, number_at, name_at, begins, decimal, letters, line}
 
 -- a comma, or LF behind the last field of a line
 abbrev pub sep_of : ℕ → ℕ
@@ -20,27 +12,23 @@ sep_of left = cond (eqb left 0) 10 44
 
 -- m names with a comma behind each, and n numbers, the last of them at the line's end; r where they do not stand there: "a field that is not a number ends
 -- the reading of its row"
-abbrev pub got_name : Refusal → Word → Outcome (Placed ℕ)
-got_name r (Name v next) = good (v, next)
-got_name r NoName = refused r
-
-abbrev pub got_number : Refusal → Field → Outcome (Placed ℤ)
-got_number r (Number z next) = good (z, next)
-got_number r NotNumber = refused r
+abbrev pub got : {X : Type 0} → Refusal → Option X → Outcome X
+got r (Some x) = Ok x
+got r None = Err r
 
 unfoldable pub names : Refusal → ℕ → List ℕ → ℕ → Outcome (Placed (List ℕ))
-names r zero s at = good ([], at)
+names r zero s at = Ok ([], at)
 names r (suc m) s at = do
-  (v, p) ← got_name r (name_at 44 s at)
+  (v, p) ← got r (name_at 44 s at)
   (vs, q) ← names r m s p
-  good (v ∷ vs, q)
+  Ok (v ∷ vs, q)
 
 unfoldable pub numbers : Refusal → ℕ → List ℕ → ℕ → Outcome (Placed (List ℤ))
-numbers r zero s at = good ([], at)
+numbers r zero s at = Ok ([], at)
 numbers r (suc n) s at = do
-  (z, p) ← got_number r (number_at (sep_of n) s at)
+  (z, p) ← got r (number_at (sep_of n) s at)
   (zs, q) ← numbers r n s p
-  good (z ∷ zs, q)
+  Ok (z ∷ zs, q)
 
 pub record Row : Type 0 where
   pub words : List ℕ
@@ -50,11 +38,11 @@ unfoldable pub row : Refusal → ℕ → ℕ → List ℕ → ℕ → Outcome (P
 row r m n s at = do
   (ws, p) ← names r m s at
   (zs, q) ← numbers r n s p
-  good (record { words = ws; values = zs }, q)
+  Ok (record { words = ws; values = zs }, q)
 
 -- a text that has to stand at a place: a line of names, an empty line
 unfoldable pub text : Refusal → String → List ℕ → ℕ → Outcome ℕ
-text r w s at = cond (begins (bytes w) (drop at s)) (good (at + length (bytes w))) (refused r)
+text r w s at = cond (begins (bytes w) (drop at s)) (Ok (at + length (bytes w))) (Err r)
 
 -- the first is word 0, the first number p1
 abbrev pub word_of : Row → ℕ → ℕ
@@ -65,8 +53,8 @@ nth l k = get_or l (k - 1) (pos 0)
 
 -- "A phases or kind word not listed here is a fault of layout"
 unfoldable pub listed : {X : Type 0} → Refusal → ℕ → List (ℕ × X) → Outcome X
-listed r w [] = refused r
-listed r w (x ∷ l) = cond (eqb w x.0) (good x.1) (listed r w l)
+listed r w [] = Err r
+listed r w (x ∷ l) = cond (eqb w x.0) (Ok x.1) (listed r w l)
 
 -- a row written as a line: its names, then its numbers
 unfoldable pub row_text : Row → List ℕ

@@ -1,17 +1,15 @@
 -- Names as text, both ways: what is read as a name is the letters of its number, and the letters of such a number are read as it. Assumes nothing.
-use Rattle.std.specs.Prelude.{Bool, ◌&&◌, cond, false, true, List, [], ◌++◌, ◌∷◌, ◌≡◌, refl, ◌%◌, ◌*◌, ◌+◌, ◌-◌, ◌/◌, ◌<◌, ◌^◌, ◌≤◌, suc, zero, ℕ, leb, ltb, drop, length}
+use Rattle.std.specs.Prelude.{Bool, ◌&&◌, cond, false, true, List, [], ◌++◌, ◌∷◌, ◌≡◌, refl, ◌%◌, ◌*◌, ◌+◌, ◌-◌, ◌/◌, ◌<◌, ◌^◌, ◌≤◌, suc, zero, ℕ, leb, ltb, drop, length, Option, Some, None}
 use Rattle.std.proofs.Common.{append_assoc, append-nil, ◌∙◌, ap, subst, sym, add_assoc, add-zero, pow-suc, add-one, arith, length-append, eq-eqb, le-ltb, leb-true, lt-ltb, ltb-true, ne_eqb}
 use Rattle.std.proofs.Math.Decide.{dec_lt, ℕ_discrete}
 use Rattle.std.proofs.Math.Nat.{pow-le-pow_right}
 use Rattle.integers.specs.Bools.{both, clash}
 use Rattle.integers.specs.Lists.{All}
 use Rattle.text.specs.NumberText.{Stands, stands-past}
-use Rattle.text.specs.Text.{letter, letters, name, name_at, pack, Proper}
-use Rattle.text.specs.TextLaws.{letters-fit, letters-longer, letters-more, letters-none, letters-zero}
-use Rattle.text.specs.declared.Word.{Word}
-use Rattle.text.specs.declared.Word.TheVariants.{Name, NoName}
+use Rattle.text.specs.Text.{Placed, letter, letters, name, name_at, pack, Proper}
+use Rattle.text.specs.TextLaws.{same-placed, letters-fit, letters-longer, letters-more, letters-none, letters-zero}
 
-no_name : {X : Type 0} (w n : ℕ) → NoName ≡ Name w n → X
+no_name : {X : Type 0} (w n : ℕ) → ◌≡◌ {A = Option (Placed ℕ)} None (Some (w, n)) → X
 no_name w n e = let z : ◌≡◌ {A = ℕ} 0 1 = cc in absurd (omega arith)
 
 letters-snoc : (f v b : ℕ) → 0 < b → b < 256 → letters (suc f) (v * 256 + b) ≡ letters f v ++ (b ∷ [])
@@ -51,16 +49,16 @@ record Spelled (sep : ℕ) (l : List ℕ) (i v k w n : ℕ) : Type 0 where
   spells : (f : ℕ) → letters (f + length text) w ≡ letters f v ++ text
 
 spelled : (sep : ℕ) (l : List ℕ) (i v k w n : ℕ) → v < 18446744073709551616 → 256 ^ k ≤ v * 256 + 1 → k ≤ 8 →
-    name sep l i v ≡ Name w n → Spelled sep l i v k w n
+    name sep l i v ≡ Some (w, n) → Spelled sep l i v k w n
 unfolding name
 spelled sep [] i v k w n h p q e = no_name w n e
 spelled sep (b ∷ s) i v k w n h p q e = by (ℕ_discrete b sep) (ℕ_discrete v 0) (spelled sep s (i + 1) (v * 256 + b) (k + 1) w n)
   where
     go : ℕ → Type 0
-    go u = u < 18446744073709551616 → 256 ^ (k + 1) ≤ u * 256 + 1 → k + 1 ≤ 8 → name sep s (i + 1) u ≡ Name w n → Spelled sep s (i + 1) u (k + 1) w n
+    go u = u < 18446744073709551616 → 256 ^ (k + 1) ≤ u * 256 + 1 → k + 1 ≤ 8 → name sep s (i + 1) u ≡ Some (w, n) → Spelled sep s (i + 1) u (k + 1) w n
 
     on : (t : Bool) → (letter b && ltb v 72057594037927936) ≡ t →
-        cond t (name sep s (i + 1) (v * 256 + b)) NoName ≡ Name w n → go (v * 256 + b) → Spelled sep (b ∷ s) i v k w n
+        cond t (name sep s (i + 1) (v * 256 + b)) None ≡ Some (w, n) → go (v * 256 + b) → Spelled sep (b ∷ s) i v k w n
     on true t g ih =
         let a = both (letter b) (ltb v 72057594037927936) t in
         let r = letter-range b a.0 in
@@ -86,9 +84,9 @@ spelled sep (b ∷ s) i v k w n h p q e = by (ℕ_discrete b sep) (ℕ_discrete 
     by : Dec (b ≡ sep) → Dec (v ≡ 0) → go (v * 256 + b) → Spelled sep (b ∷ s) i v k w n
     by (yes x) (yes y) ih = no_name w n (simp (eq-eqb b sep x, eq-eqb v 0 y) at e)
     by (yes x) (no y) ih =
-        let g : Name v (i + 1) ≡ Name w n = simp (eq-eqb b sep x, ne_eqb v 0 y) at e in
-        let c : v ≡ w = cc in
-        let d : i + 1 ≡ n = cc in
+        let g : ◌≡◌ {A = Option (Placed ℕ)} (Some (v, i + 1)) (Some (w, n)) = simp (eq-eqb b sep x, ne_eqb v 0 y) at e in
+        let c : v ≡ w = (same-placed g).0 in
+        let d : i + 1 ≡ n = (same-placed g).1 in
         record {
           some = omega arith;
           fits = omega arith;
@@ -107,7 +105,7 @@ pub record Named (sep : ℕ) (l : List ℕ) (i v n : ℕ) : Type 0 where
   pub proper : Proper v
   pub field : Stands sep l i (letters 8 v) n
 
-pub name-stands : (sep : ℕ) (l : List ℕ) (i v n : ℕ) → name sep l i 0 ≡ Name v n → Named sep l i v n
+pub name-stands : (sep : ℕ) (l : List ℕ) (i v n : ℕ) → name sep l i 0 ≡ Some (v, n) → Named sep l i v n
 name-stands sep l i v n e =
     let m = spelled sep l i 0 0 v n (omega arith) (omega arith) (omega arith) e in
     let f : 8 - length m.text + length m.text ≡ 8 = omega (arith, m.short) in
@@ -117,13 +115,8 @@ name-stands sep l i v n e =
       field = record { rest = m.rest; stands = m.stands ∙ simp t; next = omega (arith, m.next, ap length t) };
     }
 
-pub name-past : (sep : ℕ) (s : List ℕ) (at v n : ℕ) → name_at sep s at ≡ Name v n → (at < n) × (n ≤ length s)
+pub name-past : (sep : ℕ) (s : List ℕ) (at v n : ℕ) → name_at sep s at ≡ Some (v, n) → (at < n) × (n ≤ length s)
 name-past sep s at v n e = stands-past sep s at (letters 8 v) n (name-stands sep (drop at s) at v n e).field
-
--- what the reader of a name says of its answer, where it is the one defined
-pub name-answer : (sep : ℕ) (s : List ℕ) (at : ℕ) (r : Word) → r ≡ name_at sep s at →
-    (r ≡ name_at sep s at) × ((v n : ℕ) → r ≡ Name v n → (at < n) × (n ≤ length s))
-name-answer sep s at r e = (e, λ v n q. name-past sep s at v n (sym e ∙ q))
 
 -- ---- from the text to the reading
 name-letter : (sep b : ℕ) (t : List ℕ) (i v : ℕ) → letter sep ≡ false → letter b ≡ true → v < 72057594037927936 →
@@ -132,7 +125,7 @@ unfolding name
 name-letter sep b t i v hs hb hv =
     simp (ne_eqb b sep (λ q. clash (letter b) hb (ap letter q ∙ hs)), hb, lt-ltb v 72057594037927936 hv)
 
-name-sep : (sep : ℕ) (t : List ℕ) (i v : ℕ) → 0 < v → name sep (sep ∷ t) i v ≡ Name v (i + 1)
+name-sep : (sep : ℕ) (t : List ℕ) (i v : ℕ) → 0 < v → name sep (sep ∷ t) i v ≡ Some (v, i + 1)
 unfolding name
 name-sep sep t i v h = simp (eq-eqb sep sep refl, ne_eqb v 0 (λ q. omega arith))
 
@@ -163,13 +156,13 @@ read_all sep hs (suc f) v t i hf hv a = by (ℕ_discrete v 0) (read_all sep hs f
         ∙ simp (e, add_assoc))
 
 pub read_letters : (sep : ℕ) → letter sep ≡ false → (v : ℕ) (t : List ℕ) (i : ℕ) → Proper v →
-    name sep (letters 8 v ++ (sep ∷ t)) i 0 ≡ Name v (i + length (letters 8 v) + 1)
+    name sep (letters 8 v ++ (sep ∷ t)) i 0 ≡ Some (v, i + length (letters 8 v) + 1)
 read_letters sep hs v t i p =
     read_all sep hs 8 v (sep ∷ t) i p.fits p.fits p.made ∙ name-sep sep t (i + length (letters 8 v)) v p.some
 
 -- the letters at a place of a longer text
 pub read-name-at : (sep : ℕ) → letter sep ≡ false → (s : List ℕ) (at v : ℕ) (t : List ℕ) → Proper v →
-    drop at s ≡ letters 8 v ++ (sep ∷ t) → name_at sep s at ≡ Name v (at + length (letters 8 v) + 1)
+    drop at s ≡ letters 8 v ++ (sep ∷ t) → name_at sep s at ≡ Some (v, at + length (letters 8 v) + 1)
 read-name-at sep hs s at v t p e = simp e (read_letters sep hs v t at p)
 
 -- ---- packing is one to one

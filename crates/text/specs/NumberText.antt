@@ -1,15 +1,13 @@
 -- Numbers as text, both ways: what is read as a number is its decimal text, and the decimal text of a number below 10 ^ 18 in size is read as it.
 -- Assumes nothing.
-use Rattle.std.specs.Prelude.{◌≡◌, refl, Bool, true, false, cond, ◌&&◌, List, [], ◌∷◌, ◌++◌, ℕ, zero, suc, ◌+◌, ◌-◌, ◌*◌, ◌/◌, ◌%◌, ◌^◌, ◌≤◌, ◌<◌, ltb, leb, ℤ, pos, negsuc, nat_abs, length, drop}
+use Rattle.std.specs.Prelude.{◌≡◌, refl, Bool, true, false, cond, ◌&&◌, List, [], ◌∷◌, ◌++◌, ℕ, zero, suc, ◌+◌, ◌-◌, ◌*◌, ◌/◌, ◌%◌, ◌^◌, ◌≤◌, ◌<◌, ltb, leb, ℤ, pos, negsuc, nat_abs, length, drop, Option, Some, None}
 use Rattle.std.proofs.Common.{sym, ap, ◌∙◌, append_assoc, append-nil, arith, add-one, add-zero, add_assoc, pow-suc, length-append, length-drop, drop-drop, lt-ltb, le-ltb, le-leb, leb-true, ltb-true, eq-eqb, ne_eqb}
 use Rattle.std.proofs.Math.Decide.{dec_lt, ℕ_discrete}
 use Rattle.std.proofs.Math.Nat.{pow-le-pow_right}
 use Rattle.std.proofs.Math.Seq.{drop-append-add}
 use Rattle.integers.specs.Bools.{both}
-use Rattle.text.specs.declared.Field.{Field}
-use Rattle.text.specs.declared.Field.TheVariants.{Number, NotNumber}
-use Rattle.text.specs.Text.{digit, more, natural, negated, number, number_at, digits, decimal}
-use Rattle.text.specs.TextLaws.{digits-one, digits_more, digits-longer, digits-fit, decimal-natural, decimal-negative}
+use Rattle.text.specs.Text.{Placed, digit, more, natural, negated, number, number_at, digits, decimal}
+use Rattle.text.specs.TextLaws.{same-placed, digits-one, digits_more, digits-longer, digits-fit, decimal-natural, decimal-negative}
 
 -- ---- a field that stands at a place: its text d and the separator behind it, n the place behind both
 pub record Stands (sep : ℕ) (l : List ℕ) (i : ℕ) (d : List ℕ) (n : ℕ) : Type 0 where
@@ -30,7 +28,7 @@ behind sep s at d t e =
     simp add_assoc (sym k ∙ simp e (drop-append-add d (sep ∷ t) 1))
 
 -- ---- from the reading to the text
-not-number : {X : Type 0} (z : ℤ) (n : ℕ) → NotNumber ≡ Number z n → X
+not-number : {X : Type 0} (z : ℤ) (n : ℕ) → ◌≡◌ {A = Option (Placed ℤ)} None (Some (z, n)) → X
 not-number z n e = let q : ◌≡◌ {A = ℕ} 0 1 = cc in absurd (omega arith)
 
 digits-snoc : (f v d : ℕ) → 0 < v → d < 10 → digits (suc f) (v * 10 + d) ≡ digits f v ++ ((48 + d) ∷ [])
@@ -63,16 +61,16 @@ record Spelled (sep : ℕ) (l : List ℕ) (i v k : ℕ) (z : ℤ) (n : ℕ) : Ty
   spells : (f : ℕ) → digits (f + length text) value ≡ digits f v ++ text
 
 spelled : (sep : ℕ) (l : List ℕ) (i v k : ℕ) (z : ℤ) (n : ℕ) → v < 1000000000000000000 → (0 < v → 10 ^ k ≤ v * 10) → k ≤ 18 →
-    more sep l i v ≡ Number z n → Spelled sep l i v k z n
+    more sep l i v ≡ Some (z, n) → Spelled sep l i v k z n
 unfolding more
 spelled sep [] i v k z n h p q e = not-number z n e
 spelled sep (b ∷ s) i v k z n h p q e = by (ℕ_discrete b sep) (spelled sep s (i + 1) (v * 10 + (b - 48)) (k + 1) z n)
   where
     go : ℕ → Type 0
-    go w = w < 1000000000000000000 → (0 < w → 10 ^ (k + 1) ≤ w * 10) → k + 1 ≤ 18 → more sep s (i + 1) w ≡ Number z n → Spelled sep s (i + 1) w (k + 1) z n
+    go w = w < 1000000000000000000 → (0 < w → 10 ^ (k + 1) ≤ w * 10) → k + 1 ≤ 18 → more sep s (i + 1) w ≡ Some (z, n) → Spelled sep s (i + 1) w (k + 1) z n
 
     on : (t : Bool) → (digit b && (ltb 0 v && ltb v 100000000000000000)) ≡ t →
-        cond t (more sep s (i + 1) (v * 10 + (b - 48))) NotNumber ≡ Number z n → go (v * 10 + (b - 48)) → Spelled sep (b ∷ s) i v k z n
+        cond t (more sep s (i + 1) (v * 10 + (b - 48))) None ≡ Some (z, n) → go (v * 10 + (b - 48)) → Spelled sep (b ∷ s) i v k z n
     on true t g ih =
         let w = both (digit b) (ltb 0 v && ltb v 100000000000000000) t in
         let r = digit-range b w.0 in
@@ -100,9 +98,9 @@ spelled sep (b ∷ s) i v k z n h p q e = by (ℕ_discrete b sep) (spelled sep s
 
     by : Dec (b ≡ sep) → go (v * 10 + (b - 48)) → Spelled sep (b ∷ s) i v k z n
     by (yes x) ih =
-        let g : Number (pos v) (i + 1) ≡ Number z n = simp (eq-eqb b sep x) at e in
-        let c : z ≡ pos v = cc in
-        let d : i + 1 ≡ n = cc in
+        let g : ◌≡◌ {A = Option (Placed ℤ)} (Some (pos v, i + 1)) (Some (z, n)) = simp (eq-eqb b sep x) at e in
+        let c : z ≡ pos v = sym (same-placed g).0 in
+        let d : i + 1 ≡ n = (same-placed g).1 in
         record { value = v; is = c; small = h; text = []; rest = s; stands = simp x; short = omega arith; next = omega arith; spells = λ f. simp (add-zero, append-nil) }
     by (no x) ih = on (digit b && (ltb 0 v && ltb v 100000000000000000)) refl (simp (ne_eqb b sep x) at e) ih
 
@@ -113,12 +111,12 @@ record Natural (sep : ℕ) (l : List ℕ) (i : ℕ) (z : ℤ) (n : ℕ) : Type 0
   small : value < 1000000000000000000
   field : Stands sep l i (digits 20 value) n
 
-natural-spelled : (sep : ℕ) (l : List ℕ) (i : ℕ) (z : ℤ) (n : ℕ) → natural sep l i ≡ Number z n → Natural sep l i z n
+natural-spelled : (sep : ℕ) (l : List ℕ) (i : ℕ) (z : ℤ) (n : ℕ) → natural sep l i ≡ Some (z, n) → Natural sep l i z n
 unfolding natural
 natural-spelled sep [] i z n e = not-number z n e
 natural-spelled sep (b ∷ s) i z n e = on (digit b) refl e
   where
-    on : (t : Bool) → digit b ≡ t → cond t (more sep s (i + 1) (b - 48)) NotNumber ≡ Number z n → Natural sep (b ∷ s) i z n
+    on : (t : Bool) → digit b ≡ t → cond t (more sep s (i + 1) (b - 48)) None ≡ Some (z, n) → Natural sep (b ∷ s) i z n
     on true t g =
         let r = digit-range b t in
         let m = spelled sep s (i + 1) (b - 48) 1 z n (omega (arith, r)) (λ h. omega arith) (omega arith) g in
@@ -135,7 +133,7 @@ natural-spelled sep (b ∷ s) i z n e = on (digit b) refl e
     on false t g = not-number z n g
 
 -- a natural number is not negative, and below 10 ^ 18
-pub natural-small : (sep : ℕ) (l : List ℕ) (i : ℕ) (z : ℤ) (n : ℕ) → natural sep l i ≡ Number z n → (z ≡ pos (nat_abs z)) × (nat_abs z < 1000000000000000000)
+pub natural-small : (sep : ℕ) (l : List ℕ) (i : ℕ) (z : ℤ) (n : ℕ) → natural sep l i ≡ Some (z, n) → (z ≡ pos (nat_abs z)) × (nat_abs z < 1000000000000000000)
 natural-small sep l i z n e = let m = natural-spelled sep l i z n e in let h = m.small in simp m.is (refl, h)
 
 -- the number and its decimal text
@@ -143,21 +141,21 @@ pub record Numeral (sep : ℕ) (l : List ℕ) (i : ℕ) (z : ℤ) (n : ℕ) : Ty
   pub small : nat_abs z < 1000000000000000000
   pub field : Stands sep l i (decimal z) n
 
-behind-minus : (sep : ℕ) (s : List ℕ) (i : ℕ) (z : ℤ) (n : ℕ) (x : Field) → natural sep s (i + 1) ≡ x → negated x ≡ Number z n → Numeral sep (45 ∷ s) i z n
-behind-minus sep s i z n (Number y k) h e = let m = natural-spelled sep s (i + 1) y k h in on m.value m.is m.small m.field
+behind-minus : (sep : ℕ) (s : List ℕ) (i : ℕ) (z : ℤ) (n : ℕ) (x : Option (ℤ × ℕ)) → natural sep s (i + 1) ≡ x → negated x ≡ Some (z, n) → Numeral sep (45 ∷ s) i z n
+behind-minus sep s i z n (Some (y, k)) h e = let m = natural-spelled sep s (i + 1) y k h in on m.value m.is m.small m.field
   where
     on : (w : ℕ) → y ≡ pos w → w < 1000000000000000000 → Stands sep s (i + 1) (digits 20 w) k → Numeral sep (45 ∷ s) i z n
     on zero q u r = not-number z n (simp q at e)
     on (suc m) q u r =
-        let g : Number (negsuc m) k ≡ Number z n = simp (q, ne_eqb (suc m) 0 (λ a. omega arith)) at e in
-        let c : z ≡ negsuc m = cc in
-        let d : k ≡ n = cc in
+        let g : ◌≡◌ {A = Option (Placed ℤ)} (Some (negsuc m, k)) (Some (z, n)) = simp (q, ne_eqb (suc m) 0 (λ a. omega arith)) at e in
+        let c : z ≡ negsuc m = sym (same-placed g).0 in
+        let d : k ≡ n = (same-placed g).1 in
         let v : Stands sep (45 ∷ s) i (45 ∷ digits 20 (suc m)) n =
         record { rest = r.rest; stands = ap (λ (l : List ℕ). 45 ∷ l) r.stands; next = omega (arith, r.next) } in
         simp c (record { small = u; field = rw (decimal-negative m) v })
-behind-minus sep s i z n NotNumber h e = not-number z n e
+behind-minus sep s i z n None h e = not-number z n e
 
-no_minus : (sep : ℕ) (s : List ℕ) (i : ℕ) (z : ℤ) (n : ℕ) → natural sep s i ≡ Number z n → Numeral sep s i z n
+no_minus : (sep : ℕ) (s : List ℕ) (i : ℕ) (z : ℤ) (n : ℕ) → natural sep s i ≡ Some (z, n) → Numeral sep s i z n
 no_minus sep s i z n e =
     let m = natural-spelled sep s i z n e in
     let h = m.small in
@@ -165,7 +163,7 @@ no_minus sep s i z n e =
     simp m.is (record { small = h; field = rw (decimal-natural m.value) r })
 
 -- what is read as a number is its decimal text
-pub number-stands : (sep : ℕ) (l : List ℕ) (i : ℕ) (z : ℤ) (n : ℕ) → number sep l i ≡ Number z n → Numeral sep l i z n
+pub number-stands : (sep : ℕ) (l : List ℕ) (i : ℕ) (z : ℤ) (n : ℕ) → number sep l i ≡ Some (z, n) → Numeral sep l i z n
 unfolding number
 number-stands sep [] i z n e = not-number z n e
 number-stands sep (b ∷ s) i z n e = by (ℕ_discrete b 45)
@@ -174,12 +172,12 @@ number-stands sep (b ∷ s) i z n e = by (ℕ_discrete b 45)
     by (yes q) = simp q (behind-minus sep s i z n _ refl (simp (eq-eqb b 45 q) at e))
     by (no q) = no_minus sep (b ∷ s) i z n (simp (ne_eqb b 45 q) at e)
 
-pub number_past : (sep : ℕ) (s : List ℕ) (at : ℕ) (z : ℤ) (n : ℕ) → number_at sep s at ≡ Number z n → (at < n) × (n ≤ length s)
+pub number_past : (sep : ℕ) (s : List ℕ) (at : ℕ) (z : ℤ) (n : ℕ) → number_at sep s at ≡ Some (z, n) → (at < n) × (n ≤ length s)
 number_past sep s at z n e = stands-past sep s at (decimal z) n (number-stands sep (drop at s) at z n e).field
 
 -- what the reader of a number says of its answer, where it is the one defined
-pub number-answer : (sep : ℕ) (s : List ℕ) (at : ℕ) (r : Field) → r ≡ number_at sep s at →
-    (r ≡ number_at sep s at) × ((z : ℤ) (n : ℕ) → r ≡ Number z n → (at < n) × (n ≤ length s))
+pub number-answer : (sep : ℕ) (s : List ℕ) (at : ℕ) (r : Option (ℤ × ℕ)) → r ≡ number_at sep s at →
+    (r ≡ number_at sep s at) × ((z : ℤ) (n : ℕ) → r ≡ Some (z, n) → (at < n) × (n ≤ length s))
 number-answer sep s at r e = (e, λ z n q. number_past sep s at z n (sym e ∙ q))
 
 -- ---- from the text to the reading
@@ -190,7 +188,7 @@ more-digit sep d t i v hs hd h0 hv =
     let e : 48 + d - 48 ≡ d = omega arith in
     simp (ne_eqb (48 + d) sep (λ q. omega arith), le-leb 48 (48 + d) (omega arith), le-leb (48 + d) 57 (omega arith), lt-ltb 0 v h0, lt-ltb v 100000000000000000 hv, e)
 
-more-sep : (sep : ℕ) (t : List ℕ) (i v : ℕ) → more sep (sep ∷ t) i v ≡ Number (pos v) (i + 1)
+more-sep : (sep : ℕ) (t : List ℕ) (i v : ℕ) → more sep (sep ∷ t) i v ≡ Some (pos v, i + 1)
 unfolding more
 more-sep sep t i v = simp (eq-eqb sep sep refl)
 
@@ -221,25 +219,25 @@ read-digits sep hs (suc f) n t i hf hn = by (dec_lt n 10) (read-digits sep hs f 
         ∙ simp (e, add_assoc))
 
 pub read-natural : (sep : ℕ) → sep < 48 → (n : ℕ) (t : List ℕ) (i : ℕ) → n < 1000000000000000000 →
-    natural sep (digits 20 n ++ (sep ∷ t)) i ≡ Number (pos n) (i + length (digits 20 n) + 1)
+    natural sep (digits 20 n ++ (sep ∷ t)) i ≡ Some (pos n, i + length (digits 20 n) + 1)
 read-natural sep hs n t i h = read-digits sep hs 19 n (sep ∷ t) i (omega arith) h ∙ more-sep sep t (i + length (digits 20 n)) n
 
 -- what is a number with no sign is one where a sign may stand
-number-plain : (sep : ℕ) (l : List ℕ) (i : ℕ) (z : ℤ) (k : ℕ) → natural sep l i ≡ Number z k → number sep l i ≡ Number z k
+number-plain : (sep : ℕ) (l : List ℕ) (i : ℕ) (z : ℤ) (k : ℕ) → natural sep l i ≡ Some (z, k) → number sep l i ≡ Some (z, k)
 unfolding natural number
 number-plain sep [] i z k e = e
 number-plain sep (b ∷ t) i z k e = by (ℕ_discrete b 45)
   where
-    by : Dec (b ≡ 45) → number sep (b ∷ t) i ≡ Number z k
+    by : Dec (b ≡ 45) → number sep (b ∷ t) i ≡ Some (z, k)
     by (yes q) = not-number z k (simp q at e)
     by (no q) = simp (ne_eqb b 45 q, e)
 
-number-minus : (sep m : ℕ) (t : List ℕ) (i k : ℕ) → natural sep t (i + 1) ≡ Number (pos (suc m)) k → number sep (45 ∷ t) i ≡ Number (negsuc m) k
+number-minus : (sep m : ℕ) (t : List ℕ) (i k : ℕ) → natural sep t (i + 1) ≡ Some (pos (suc m), k) → number sep (45 ∷ t) i ≡ Some (negsuc m, k)
 unfolding number
 number-minus sep m t i k e = simp (e, ne_eqb (suc m) 0 (λ q. omega arith))
 
 pub read-decimal : (sep : ℕ) → sep < 45 → (z : ℤ) (t : List ℕ) (i : ℕ) → nat_abs z < 1000000000000000000 →
-    number sep (decimal z ++ (sep ∷ t)) i ≡ Number z (i + length (decimal z) + 1)
+    number sep (decimal z ++ (sep ∷ t)) i ≡ Some (z, i + length (decimal z) + 1)
 read-decimal sep hs (pos n) t i h = rw (decimal-natural n) (number-plain sep _ i (pos n) _ (read-natural sep (omega arith) n t i h))
 read-decimal sep hs (negsuc n) t i h =
     let e : i + 1 + length (digits 20 (suc n)) + 1 ≡ i + suc (length (digits 20 (suc n))) + 1 = omega arith in
@@ -247,7 +245,7 @@ read-decimal sep hs (negsuc n) t i h =
 
 -- the decimal text at a place of a longer text
 pub read_at : (sep : ℕ) → sep < 45 → (s : List ℕ) (at : ℕ) (z : ℤ) (t : List ℕ) → nat_abs z < 1000000000000000000 →
-    drop at s ≡ decimal z ++ (sep ∷ t) → number_at sep s at ≡ Number z (at + length (decimal z) + 1)
+    drop at s ≡ decimal z ++ (sep ∷ t) → number_at sep s at ≡ Some (z, at + length (decimal z) + 1)
 read_at sep hs s at z t h e = simp e (read-decimal sep hs z t at h)
 
 -- ---- lengths

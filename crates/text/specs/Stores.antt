@@ -1,12 +1,13 @@
 -- Texts written into a buffer: one behind the other, byte by byte from either end, and into a lent rest of it. Assumes nothing.
-use Rattle.std.specs.Prelude.{◌≡◌, refl, List, [], ◌∷◌, ◌++◌, ℕ, zero, suc, ◌+◌, ◌-◌, ◌≤◌, ◌<◌, length, get_or, set, take, drop}
-use Rattle.std.proofs.Common.{sym, ap, ◌∙◌, append-nil, arith, add-zero, add_assoc, not-suc-le-zero, le_of_suc-le-suc, length-append, length-set, length-drop, drop_of_length-le}
+use Rattle.std.specs.Prelude.{◌≡◌, refl, List, [], ◌∷◌, ◌++◌, ℕ, zero, suc, ◌+◌, ◌-◌, ◌≤◌, length, set, take, drop}
+use Rattle.std.proofs.Common.{sym, ap, ◌∙◌, append-nil, arith, add-zero, add_assoc, not-suc-le-zero, le_of_suc-le-suc, length-append, length-set, length-drop, drop_of_length-le, take_all}
 use Rattle.std.proofs.lemmas.List.Edits.{sets, sets-eq}
 use Rattle.std.proofs.lemmas.List.{set_comm}
+use Rattle.std.proofs.lemmas.Slice.{put_mid-paste}
 use Rattle.std.proofs.Math.Seq.{length-sets}
 use borrow.Rule.Slice.PartMut.{mid_of, put_mid}
 use Rattle.text.specs.Promises.{Written}
-use Rattle.text.specs.TextLaws.{drop-next, part-from}
+use Rattle.text.specs.TextLaws.{part-from}
 
 -- two texts, one behind the other, are one
 pub sets-append : (l : List ℕ) (i : ℕ) (vs ws : List ℕ) → sets l i (vs ++ ws) ≡ sets (sets l i vs) (i + length vs) ws
@@ -31,11 +32,13 @@ pub written-parts : {out : List ℕ} {at : ℕ} {vs : List ℕ} {p : ℕ} {l : L
     l ≡ take at out ++ vs ++ drop p out
 written-parts {out} {at} {vs} h a = a.holds ∙ sets-eq vs out at h ∙ ap (λ (n : ℕ). take at out ++ vs ++ drop n out) (sym a.next)
 
--- the k-th byte of a text, and then the rest
-pub sets-next : (l : List ℕ) (i : ℕ) (vs : List ℕ) (k : ℕ) → k < length vs → sets l (i + k) (drop k vs) ≡ sets (set l (i + k) (get_or vs k 0)) (i + (k + 1)) (drop (k + 1) vs)
-sets-next l i vs k h =
-    let e : i + (k + 1) ≡ suc (i + k) = omega arith in
-    simp (drop-next vs k h, e)
+-- a text that was copied into the part it takes
+pub written-copied : {out : List ℕ} {at : ℕ} {vs l : List ℕ} → at + length vs ≤ length out → l ≡ vs →
+    Written out at vs (at + length vs) (put_mid at (at + length vs - at) out l)
+written-copied {out} {at} {vs} {l} h e = record {
+  next = refl;
+  holds = put_mid-paste at (at + length vs - at) out l vs (length vs) e (omega arith) refl ∙ simp (take_all (length vs) vs (omega arith)) (sym (sets-eq vs out at h));
+}
 
 -- the last byte of a text, and then those in front of it
 sets_last : (l : List ℕ) (i : ℕ) (vs : List ℕ) (x : ℕ) → sets l i (vs ++ (x ∷ [])) ≡ sets (set l (i + length vs) x) i vs

@@ -1,13 +1,9 @@
 -- Files (01): numbers, names and words as text. A text is the list of its bytes. Assumes nothing.
-use Rattle.std.specs.Prelude.{Bool, true, false, cond, ◌&&◌, List, [], ◌∷◌, ◌++◌, ◌≡◌, ℕ, zero, suc, ◌+◌, ◌-◌, ◌*◌, ◌/◌, ◌%◌, ◌<◌, ltb, leb, eqb, ℤ, pos, neg_ℤ, nat_abs, drop}
+use Rattle.std.specs.Prelude.{Bool, true, false, cond, ◌&&◌, List, [], ◌∷◌, ◌++◌, ◌≡◌, ℕ, zero, suc, ◌+◌, ◌-◌, ◌*◌, ◌/◌, ◌%◌, ◌<◌, ltb, leb, eqb, ℤ, pos, neg_ℤ, nat_abs, drop, Option, Some, None}
 use Prim.Native.String.{String, [] as ε, ◌∷◌ as ◌◃◌}
 use Prim.Native.Char.{code}
 use Rattle.std.specs.Int.Signed.{lt_z}
 use Rattle.integers.specs.Lists.{All}
-use Rattle.text.specs.declared.Field.{Field}
-use Rattle.text.specs.declared.Field.TheVariants.{Number, NotNumber}
-use Rattle.text.specs.declared.Word.{Word}
-use Rattle.text.specs.declared.Word.TheVariants.{Name, NoName}
 
 -- the bytes of a text that stands here in quotes
 unfoldable pub bytes : String → List ℕ
@@ -16,44 +12,48 @@ bytes (c ◃ s) = code c ∷ bytes s
 
 -- ---- reading. A field ends with the separator that is due there: a comma, or LF at the line's end. Each reading has the rest of the text,
 -- the place i where it stands, and gives the value with the place behind the separator
+-- a value, and the place behind its text
+abbrev pub Placed : Type 0 → Type 0
+Placed X = X × ℕ
+
 -- "A number is an optional minus and 1 to 18 digits, no leading zero, no "-0""
 abbrev pub digit : ℕ → Bool
 digit b = leb 48 b && leb b 57
 
 -- v has been read. A further digit may come where v is not 0 (no leading zero) and has at most 17 digits
-unfoldable pub more : ℕ → List ℕ → ℕ → ℕ → Field
-more sep [] i v = NotNumber
+unfoldable pub more : ℕ → List ℕ → ℕ → ℕ → Option (Placed ℤ)
+more sep [] i v = None
 more sep (b ∷ t) i v =
     let further = more sep t (i + 1) (v * 10 + (b - 48)) in
-    cond (eqb b sep) (Number (pos v) (i + 1)) (cond (digit b && (ltb 0 v && ltb v 100000000000000000)) further NotNumber)
+    cond (eqb b sep) (Some (pos v, i + 1)) (cond (digit b && (ltb 0 v && ltb v 100000000000000000)) further None)
 
-unfoldable pub natural : ℕ → List ℕ → ℕ → Field
-natural sep [] i = NotNumber
-natural sep (b ∷ t) i = cond (digit b) (more sep t (i + 1) (b - 48)) NotNumber
+unfoldable pub natural : ℕ → List ℕ → ℕ → Option (Placed ℤ)
+natural sep [] i = None
+natural sep (b ∷ t) i = cond (digit b) (more sep t (i + 1) (b - 48)) None
 
 -- behind a minus
-abbrev pub negated : Field → Field
-negated (Number z next) = cond (eqb (nat_abs z) 0) NotNumber (Number (neg_ℤ z) next)
-negated NotNumber = NotNumber
+abbrev pub negated : Option (Placed ℤ) → Option (Placed ℤ)
+negated (Some (z, next)) = cond (eqb (nat_abs z) 0) None (Some (neg_ℤ z, next))
+negated None = None
 
-unfoldable pub number : ℕ → List ℕ → ℕ → Field
-number sep [] i = NotNumber
+unfoldable pub number : ℕ → List ℕ → ℕ → Option (Placed ℤ)
+number sep [] i = None
 number sep (b ∷ t) i = cond (eqb b 45) (negated (natural sep t (i + 1))) (natural sep (b ∷ t) i)
 
-abbrev pub number_at : ℕ → List ℕ → ℕ → Field
+abbrev pub number_at : ℕ → List ℕ → ℕ → Option (Placed ℤ)
 number_at sep s at = number sep (drop at s) at
 
 -- "A name is 1 to 8 of A–Z and 0–9": as one number, its bytes the digits of base 256. v has been read; a further letter may come where v has at most 7
 abbrev pub letter : ℕ → Bool
 letter b = cond (ltb b 58) (leb 48 b) (leb 65 b && leb b 90)
 
-unfoldable pub name : ℕ → List ℕ → ℕ → ℕ → Word
-name sep [] i v = NoName
+unfoldable pub name : ℕ → List ℕ → ℕ → ℕ → Option (Placed ℕ)
+name sep [] i v = None
 name sep (b ∷ t) i v =
     let further = name sep t (i + 1) (v * 256 + b) in
-    cond (eqb b sep) (cond (eqb v 0) NoName (Name v (i + 1))) (cond (letter b && ltb v 72057594037927936) further NoName)
+    cond (eqb b sep) (cond (eqb v 0) None (Some (v, i + 1))) (cond (letter b && ltb v 72057594037927936) further None)
 
-abbrev pub name_at : ℕ → List ℕ → ℕ → Word
+abbrev pub name_at : ℕ → List ℕ → ℕ → Option (Placed ℕ)
 name_at sep s at = name sep (drop at s) at 0
 
 -- a word that stands here in quotes, as that number

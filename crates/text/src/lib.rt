@@ -6,16 +6,5 @@ pub mod lines;
 pub mod read;
 pub mod write;
 
-// A number read at a place, and the place behind its separator.
-#[derive(Clone, Copy)]
-pub enum Field {
-    Number(i64, usize),
-    NotNumber,
-}
-
-// A name read at a place, packed, and the place behind its separator.
-#[derive(Clone, Copy)]
-pub enum Word {
-    Name(u64, usize),
-    NoName,
-}
+// A value read at a place, and the place behind its separator.
+pub type Placed<T> = (T, usize);

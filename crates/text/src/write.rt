@@ -1,7 +1,6 @@
 // Writers of fields. Each writes a text from place `at` on, leaves the rest of the buffer as it is, and answers the place behind the text:
 // specs/Promises.antt says so in one word, Written.
-ghost use Rattle.std.specs.Prelude.{◌≡◌, [], ◌∷◌, ◌+◌, ◌≤◌, pos, length};
-ghost use Rattle.std.specs.Int.Signed.{lt_z};
+ghost use Rattle.std.specs.Prelude.{◌≡◌, [], ◌∷◌, ◌+◌, ◌≤◌, length};
 ghost use Rattle.text.specs.Text.{digits, decimal, letters};
 ghost use Rattle.text.specs.Promises.{Written};
 
@@ -21,13 +20,9 @@ pub fn put_bytes(out: &mut [u8], at: usize, text: &[u8]) -> usize
     requires { at + length text.now ≤ length out.old }
     ensures { Written out.old at text.now result out.new }
 {
-    let mut k = 0;
-    while k < text.len() {
-        let b = text[k];
-        out[at + k] = b;
-        k += 1;
-    }
-    at + k
+    let behind = at + text.len();
+    out[at..behind].copy_from_slice(text);
+    behind
 }
 
 // How many digits n has, at most places.
@@ -49,21 +44,13 @@ pub fn put_digits(out: &mut [u8], at: usize, n: u64) -> usize
     ensures { Written out.old at (digits 20 n) result out.new }
 {
     let end = at + digits_width(n, 20);
-    let mut i = end;
     let mut left = n;
-    while 10 <= left {
-        i -= 1;
-        out[i] = 48 + (left % 10) as u8;
-        left = left / 10;
+    for i in (at + 1..end).rev() {
+        out[i] = b'0' + (left % 10) as u8;
+        left /= 10;
     }
-    out[at] = 48 + left as u8;
+    out[at] = b'0' + left as u8;
     end
-}
-
-fn is_negative(z: i64) -> bool
-    ensures { result ≡ lt_z z (pos 0) }
-{
-    z < 0
 }
 
 // How many bytes the text of z takes.
@@ -72,7 +59,7 @@ pub fn number_width(z: i64) -> usize
 {
     let n = whole::size(z);
     let k = digits_width(n, 20);
-    if is_negative(z) { k + 1 } else { k }
+    if z < 0 { k + 1 } else { k }
 }
 
 // A number: a minus where it is below 0, and the digits of its size.
@@ -81,21 +68,18 @@ pub fn put_number(out: &mut [u8], at: usize, z: i64) -> usize
     ensures { Written out.old at (decimal z) result out.new }
 {
     let n = whole::size(z);
-    if is_negative(z) {
-        out[at] = 45;
+    if z < 0 {
+        out[at] = b'-';
         return put_digits(out, at + 1, n);
     }
     put_digits(out, at, n)
 }
 
-// How many letters v has, at most places.
+// How many letters v has, at most places. Apart from digits_width: 0 has a digit, and no letter.
 fn letters_width(v: u64, places: usize) -> usize
     ensures { result ≡ length (letters places v) }
 {
-    if places == 0 {
-        return 0;
-    }
-    if v == 0 {
+    if places == 0 || v == 0 {
         return 0;
     }
     letters_width(v / 256, places - 1) + 1
@@ -114,12 +98,10 @@ pub fn put_name(out: &mut [u8], at: usize, v: u64) -> usize
     ensures { Written out.old at (letters 8 v) result out.new }
 {
     let end = at + name_width(v);
-    let mut i = end;
     let mut left = v;
-    while left != 0 {
-        i -= 1;
+    for i in (at..end).rev() {
         out[i] = (left % 256) as u8;
-        left = left / 256;
+        left /= 256;
     }
     end
 }

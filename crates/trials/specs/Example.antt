@@ -1,13 +1,11 @@
 -- 01's example: the study's report, answer and buffer, the check's pass, and the power account. Assumes nothing.
-use Rattle.std.specs.Prelude.{List, [], ◌∷◌, ◌++◌, ◌≡◌, refl, ℕ, pos, replicate}
-use Rattle.answers.specs.Answers.{good}
+use Rattle.answers.specs.Answers.{done}
+use Rattle.std.specs.Prelude.{List, [], ◌∷◌, ◌++◌, ◌≡◌, refl, ℕ, pos, replicate, Ok, Err}
 use Rattle.check_answer.specs.CheckAnswer.{check_text}
 use Rattle.answers.specs.declared.Refusal.TheVariants.{BufferShort}
 use Rattle.text.specs.Text.{bytes}
 use Rattle.ladder.specs.Study.{report, study_of, buffer_of}
-use Rattle.ladder.specs.declared.Study.TheVariants.{Written, NoReport}
-use Rattle.verdicts.specs.Check.{check_of}
-use Rattle.verdicts.specs.declared.Verdict.TheVariants.{Pass}
+use Rattle.verdicts.specs.Check.{checked}
 use Rattle.study_answer.specs.StudyAnswer.{study_text}
 use Rattle.trials.specs.Opened.{opened, account_of}
 
@@ -28,20 +26,20 @@ abbrev pub written : List ℕ
 written = tables ++ bytes "\nto,tap_a,tap_b,tap_c\n"
 
 -- "The report that the study program prints for it": its bytes, and the number of sweeps made
-reported : report feeder ≡ good (record { text = written; sweeps = 2 })
+reported : report feeder ≡ Ok (record { text = written; sweeps = 2 })
 unfolding opened
 reported = refl
 
 -- the answer: length and sweeps, in a buffer that is longer and in one that it just fits into; 40 at one byte less
-answer : study_of feeder 400 ≡ Written 311 2
+answer : study_of feeder 400 ≡ Ok (record { length = 311; sweeps = 2 })
 unfolding opened
 answer = refl
 
-just-fits : study_of feeder 311 ≡ Written 311 2
+just-fits : study_of feeder 311 ≡ Ok (record { length = 311; sweeps = 2 })
 unfolding opened
 just-fits = refl
 
-too_short : study_of feeder 310 ≡ NoReport (BufferShort 311)
+too_short : study_of feeder 310 ≡ Err (BufferShort 311)
 unfolding opened
 too_short = refl
 
@@ -54,12 +52,12 @@ buffer-kept : buffer_of feeder (replicate 310 42) ≡ replicate 310 42
 unfolding opened
 buffer-kept = refl
 
-passes : check_of feeder written ≡ Pass
+passes : checked feeder written ≡ Ok done
 unfolding opened
 passes = refl
 
 -- 02: "A report filed without that table is read with the taps p1 to p3 if no regulator has a level above 0"
-passes-as-filed : check_of feeder tables ≡ Pass
+passes-as-filed : checked feeder tables ≡ Ok done
 unfolding opened
 passes-as-filed = refl
 
@@ -81,10 +79,10 @@ unfolding opened
 program-layout = refl
 
 -- "Above: difference 51,980, twice that 103,960, allowance 749,044"
-account : account_of feeder written ≡ good (record { differs = record { re = pos 51980; im = pos 0 }; allowed = 749044 })
+account : account_of feeder written ≡ Ok (record { differs = record { re = pos 51980; im = pos 0 }; allowed = 749044 })
 unfolding opened
 account = refl
 
-account-as-filed : account_of feeder tables ≡ good (record { differs = record { re = pos 51980; im = pos 0 }; allowed = 749044 })
+account-as-filed : account_of feeder tables ≡ Ok (record { differs = record { re = pos 51980; im = pos 0 }; allowed = 749044 })
 unfolding opened
 account-as-filed = refl

@@ -13,7 +13,7 @@ use Rattle.feeder.specs.declared.LoadKind.{LoadKind}
 use Rattle.feeder.specs.declared.LoadKind.TheVariants.{Power, Current, Impedance}
 use Rattle.feeder.specs.declared.Phase.TheVariants.{A}
 use Rattle.feeder.specs.declared.Terminals.TheVariants.{OnA}
-use Rattle.feeder.specs.declared.Three.{Three}
+use Rattle.feeder.specs.Phased.{Three}
 use Rattle.equations.specs.Equations.{at, current_at, taken_of, through_of, zero3}
 
 -- ---- what the rows speak of

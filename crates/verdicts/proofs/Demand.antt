@@ -1,5 +1,5 @@
 -- DEMAND 3: a pass implies the power account. Assumes nothing.
-use Rattle.std.specs.Prelude.{◌&&◌, false, List, ◌≡◌, get_or}
+use Rattle.std.specs.Prelude.{◌&&◌, false, List, ◌≡◌, get_or, Ok}
 use Rattle.std.proofs.Common.{◌∙◌, ap}
 use Rattle.std.proofs.Math.Path.{ap₂, sym}
 use Prim.Native.Nat.{◌+◌, ◌<◌, suc, ℕ}
@@ -7,6 +7,7 @@ use native.Mathlib.Omega.{arith}
 use Rattle.account.specs.Account.{PowerAccount}
 use Rattle.account.specs.Powers.{reactive, real}
 use Rattle.account.proofs.AccountLaw.{BranchKnown, Known, LoadKnown, account-law}
+use Rattle.answers.specs.Answers.{done}
 use Rattle.equations.specs.Absent.{absent_none}
 use Rattle.equations.specs.Equations.{at, currents, far_voltage, kind_at, needs_voltage, power, source_power, voltage_on, voltages, zero3, zero_voltage}
 use Rattle.equations.specs.Meets.{currents-meet, taken-same, taken_at, voltages-meet, voltages-source}
@@ -15,15 +16,14 @@ use Rattle.feeder.specs.Feeder.{Feeder, branch_at, parent, row_count}
 use Rattle.feeder.proofs.FeederLaws.{sound}
 use Rattle.feeder.proofs.RowFacts.{Formed, OfLoad, formed, load-node}
 use Rattle.feeder.specs.declared.Load.{Load}
-use Rattle.feeder.specs.declared.Three.{Three}
+use Rattle.feeder.specs.Phased.{Three}
 use Rattle.integers.specs.ListLaws.{all-count, all-map2, any_false}
 use Rattle.integers.specs.Pairs.{within}
 use Rattle.report.specs.Report.{Reported, reported_currents, reported_voltages, with_reported}
 use Rattle.report.proofs.ReportTaps.{reported-formed}
-use Rattle.verdicts.specs.Check.{check_of}
+use Rattle.verdicts.specs.Check.{checked}
 use Rattle.verdicts.proofs.Passed.{Passed, pass-found}
 use Rattle.verdicts.proofs.Tests.{all-close, currents-same, source-same, totals-same}
-use Rattle.verdicts.specs.declared.Verdict.TheVariants.{Pass}
 
 module _ (f : Feeder) (r : Reported) (w : Formed f) (h : Passed f r) where
   abbrev v : List Three
@@ -64,7 +64,7 @@ module _ (f : Feeder) (r : Reported) (w : Formed f) (h : Passed f r) where
   }
 
 -- DEMAND 3, for every feeder's and every report's text
-pub demand3 : (s t : List ℕ) → check_of s t ≡ Pass → PowerAccount s t
+pub demand3 : (s t : List ℕ) → checked s t ≡ Ok done → PowerAccount s t
 demand3 s t e =
     let g = pass-found s t e in
     let f : Feeder = with_reported g.feeder g.report in

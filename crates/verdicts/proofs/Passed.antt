@@ -1,32 +1,27 @@
 -- A pass: what the check has found of the two texts, each test one by one; and the tests give the pass back. Assumes nothing.
-use Rattle.std.specs.Prelude.{false, List, ◌≡◌, refl, ℕ}
-use Rattle.std.proofs.Common.{ap, arith}
+use Rattle.std.specs.Prelude.{false, List, ◌≡◌, refl, ℕ, None, Ok, Err}
 use Rattle.answers.specs.AnswerLaws.{bound, not_at, not-if, not-refused}
-use Rattle.answers.specs.Answers.{Done, Outcome, ◌>>=◌, ◌>>◌, done, good, refuse_at, refused}
-use Rattle.answers.specs.declared.Found.TheVariants.{Nothing}
-use Rattle.answers.specs.declared.Refusal.{Refusal}
+use Rattle.answers.specs.Answers.{Done, Outcome, ◌>>=◌, ◌>>◌, done, refuse_at}
 use Rattle.answers.specs.declared.Refusal.TheVariants.{TapDiffers, TooLong}
 use Rattle.equations.specs.Equations.{current_beyond, currents, load_beyond, voltages, zero_voltage}
 use Rattle.feeder.specs.Feeder.{Feeder, reading, too_long}
 use Rattle.report.specs.Report.{Reported, report_of, reported_voltages, with_reported}
 use Rattle.compare.specs.Differences.{current_differs, name_differs, source_differs, tap_differs, total_differs}
-use Rattle.verdicts.specs.Check.{CheckTold, check_of, checked, compared, verdict_of, voltage_off}
-use Rattle.verdicts.specs.declared.Verdict.{Verdict}
-use Rattle.verdicts.specs.declared.Verdict.TheVariants.{Fail, Pass}
+use Rattle.verdicts.specs.Check.{CheckTold, checked, compared, voltage_off}
 
 -- the tests that a report has met
 pub record Passed (f : Feeder) (r : Reported) : Type 0 where
-  pub t51 : name_differs f r ≡ Nothing
-  pub t52 : source_differs f r ≡ Nothing
+  pub t51 : name_differs f r ≡ None
+  pub t52 : source_differs f r ≡ None
   pub t30 : zero_voltage f (reported_voltages r) ≡ false
   pub t31 : load_beyond f (reported_voltages r) ≡ false
   pub t32 : current_beyond f (currents f (reported_voltages r)) ≡ false
-  pub t53 : current_differs f r (currents f (reported_voltages r)) ≡ Nothing
-  pub t54 : voltage_off f r (voltages f (currents f (reported_voltages r))) ≡ Nothing
+  pub t53 : current_differs f r (currents f (reported_voltages r)) ≡ None
+  pub t54 : voltage_off f r (voltages f (currents f (reported_voltages r))) ≡ None
   pub t55 : total_differs f r (reported_voltages r) (currents f (reported_voltages r)) ≡ false
 
 -- 51 to 55 and 30 to 32, of a report that is found equal
-pub passed : (f : Feeder) (r : Reported) → compared f r ≡ good done → Passed f r
+pub passed : (f : Feeder) (r : Reported) → compared f r ≡ Ok done → Passed f r
 unfolding compared
 passed f r e =
     let a = not_at _ _ _ _ e in
@@ -40,7 +35,7 @@ passed f r e =
     record { t51 = a.0; t52 = b.0; t30 = c.0; t31 = d.0; t32 = g.0; t53 = h.0; t54 = i.0; t55 = j.0 }
 
 -- and a report that meets them is passed
-pub passed-compares : (f : Feeder) (r : Reported) → Passed f r → compared f r ≡ good done
+pub passed-compares : (f : Feeder) (r : Reported) → Passed f r → compared f r ≡ Ok done
 unfolding compared
 passed-compares f r w = rw (w.t51, w.t52, w.t30, w.t31, w.t32, w.t53, w.t54, w.t55)
 
@@ -49,45 +44,35 @@ pub record PassFound (s t : List ℕ) : Type 0 where
   pub t9 : too_long t ≡ false
   pub feeder : Feeder
   pub report : Reported
-  pub feeder-read : reading s ≡ good feeder
-  pub report-read : report_of feeder t ≡ good report
+  pub feeder-read : reading s ≡ Ok feeder
+  pub report-read : report_of feeder t ≡ Ok report
   pub met : Passed (with_reported feeder report) report
-  pub t56 : tap_differs feeder report ≡ Nothing
-
-pass-good : (x : Outcome Done) → verdict_of x ≡ Pass → x ≡ good done
-pass-good (good done) e = refl
-pass-good (refused r) e = let z : ◌≡◌ {A = ℕ} 0 1 = cc in absurd (omega arith)
-
--- the refusal behind a verdict
-pub fail-refused : (o : Outcome Done) (y : Refusal) → verdict_of o ≡ Fail y → o ≡ refused y
-fail-refused (good d) y e = let z : ◌≡◌ {A = ℕ} 0 1 = cc in absurd (omega arith)
-fail-refused (refused z) y e = let w : z ≡ y = cc in ap refused w
+  pub t56 : tap_differs feeder report ≡ None
 
 -- what a pass has found
-pub pass-found : (s t : List ℕ) → check_of s t ≡ Pass → PassFound s t
-unfolding check_of checked
+pub pass-found : (s t : List ℕ) → checked s t ≡ Ok done → PassFound s t
+unfolding checked
 pass-found s t e =
-    let last : Feeder → Reported → Outcome Done = λ f r. compared (with_reported f r) r >> (refuse_at TapDiffers (tap_differs f r) >> good done) in
-    let a = not-if (too_long t) TooLong (reading s >>= λ f. report_of f t >>= last f) done (pass-good (checked s t) e) in
+    let last : Feeder → Reported → Outcome Done = λ f r. compared (with_reported f r) r >> (refuse_at TapDiffers (tap_differs f r) >> Ok done) in
+    let a = not-if (too_long t) TooLong (reading s >>= λ f. report_of f t >>= last f) done e in
     let b = bound (reading s) (λ f. report_of f t >>= last f) done a.1 in
     let c = bound (report_of b.value t) (last b.value) done b.rest in
     let d = after (compared (with_reported b.value c.value) c.value) _ c.rest in
     record { t9 = a.0; feeder = b.value; report = c.value; feeder-read = b.came; report-read = c.came; met = passed (with_reported b.value c.value) c.value d.0; t56 = (not_at _ _ _ _ d.1).0 }
   where
-    after : (x y : Outcome Done) → (x >> y) ≡ good done → (x ≡ good done) × (y ≡ good done)
-    after (good done) y e = (refl, e)
-    after (refused r) y e = not-refused r done e
+    after : (x y : Outcome Done) → (x >> y) ≡ Ok done → (x ≡ Ok done) × (y ≡ Ok done)
+    after (Ok d) y e = (refl, e)
+    after (Err r) y e = not-refused r done e
 
 -- and where they are found so, the check passes
-pub found-passes : (s t : List ℕ) → PassFound s t → check_of s t ≡ Pass
-unfolding check_of checked
+pub found-passes : (s t : List ℕ) → PassFound s t → checked s t ≡ Ok done
+unfolding checked
 found-passes s t w = rw (w.t9, w.feeder-read, w.report-read, passed-compares (with_reported w.feeder w.report) w.report w.met, w.t56)
 
--- every verdict tells the number and the value of its outcome
-verdict-told : (o : Outcome Done) → CheckTold o (verdict_of o)
-verdict-told (good d) = record { number = refl; value = refl }
-verdict-told (refused r) = record { number = refl; value = refl }
+-- every answer tells its own number and value
+self-told : (o : Outcome Done) → CheckTold o o
+self-told (Ok d) = record { number = refl; value = refl }
+self-told (Err r) = record { number = refl; value = refl }
 
-pub check-told : (s t : List ℕ) {v : Verdict} → v ≡ check_of s t → CheckTold (checked s t) v
-unfolding check_of
-check-told s t e = rw e (verdict-told (checked s t))
+pub check-told : (s t : List ℕ) {v : Outcome Done} → v ≡ checked s t → CheckTold (checked s t) v
+check-told s t e = rw e (self-told (checked s t))

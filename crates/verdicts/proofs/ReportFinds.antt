@@ -1,5 +1,5 @@
 -- 51 to 54 and 56 (02, S-4, S-5): each search finds the first line of a row that has the fault, or no row of the report has it. Assumes nothing.
-use Rattle.std.specs.Prelude.{Bool, ◌&&◌, cond, List, ◌⊎◌, ◌≡◌, get_or, length}
+use Rattle.std.specs.Prelude.{Bool, ◌&&◌, cond, List, ◌⊎◌, ◌≡◌, get_or, length, Option, ℕ, Some, None}
 use Rattle.std.proofs.Math.Bool.{false, not, true}
 use Rattle.std.proofs.Math.Logic.{inl, inr, ⊎_elim}
 use Rattle.std.proofs.Common.{◌∙◌, sym}
@@ -8,8 +8,6 @@ use Prim.Native.Nat.{◌*◌, ◌+◌, ◌-◌, ◌<◌, suc, zero, ℕ}
 use native.Mathlib.Omega.{arith}
 use Rattle.std.proofs.Math.Dec.{eqb}
 use borrow.Author.Tests.{eqb-false, eqb-true, ne_eqb, not-true}
-use Rattle.answers.specs.declared.Found.{Found}
-use Rattle.answers.specs.declared.Found.TheVariants.{At, Nothing}
 use Rattle.compare.specs.Differences.{current_differs, first_branch_row, first_node, first_tap_row, name_at_node, name_differs, same3, source_differs}
 use Rattle.equations.specs.Downward.{below, none-off}
 use Rattle.equations.specs.Equations.{at, voltages, zero3}
@@ -21,7 +19,7 @@ use Rattle.feeder.specs.RowLaws.{false-some, nodes-none, some-false}
 use Rattle.feeder.proofs.Standing.{LineOf, at-stands, finds-rows, stands_at}
 use Rattle.feeder.specs.declared.Phase.{Phase}
 use Rattle.feeder.specs.declared.Phase.TheVariants.{A, B, C}
-use Rattle.feeder.specs.declared.Three.{Three}
+use Rattle.feeder.specs.Phased.{Three}
 use Rattle.integers.specs.Bools.{both, clash, fails-test, joined, one-false}
 use Rattle.integers.specs.ListLaws.{get_or_map, get_or-tab, length-tab}
 use Rattle.integers.specs.Lists.{all, count, tab}
@@ -43,7 +41,7 @@ pub record AtIndex (many before : ℕ) (P : ℕ → Type 0) (n : ℕ) : Type 0 w
   holds : P index
 
 -- the same of each row in other words
-pub index_same : {P Q : ℕ → Type 0} {many before : ℕ} {c : Found} → ((i : ℕ) → i < many → P i → Q i) → ((i : ℕ) → i < many → Q i → P i)
+pub index_same : {P Q : ℕ → Type 0} {many before : ℕ} {c : Option ℕ} → ((i : ℕ) → i < many → P i → Q i) → ((i : ℕ) → i < many → Q i → P i)
     → Finds c (AtIndex many before P) → Finds c (AtIndex many before Q)
 index_same to back h = finds-same
     (λ n w. record { index = w.index; among = w.among; line = w.line; holds = to w.index w.among w.holds })
@@ -131,7 +129,7 @@ module _ (f : Feeder) (x : Reported) (sizes : RowsMatch f x) where
   OnTaps Fault i = Fault (of_taps (suc i) (taps_row i))
 
   -- a row with a fault is one of the three tables; one of the last has it only where that table is there
-  module _ {Fault : Feeder → Reported → ReportRow → Type 0} {c : Found} where
+  module _ {Fault : Feeder → Reported → ReportRow → Type 0} {c : Option ℕ} where
     rows-find : ((i : ℕ) → i < length (regulators f) → OnTaps (Fault f x) i → x.filed ≡ true)
         → Finds c (λ n. OfNodes (OnNode (Fault f x)) n ⊎ (OfBranches (OnBranch (Fault f x)) n ⊎ OfTaps (OnTaps (Fault f x)) n)) → Finds c (ReportRowAt Fault f x)
     rows-find there h = finds-same (λ n. ⊎_elim (of-nodes n) (⊎_elim (of-branches n) (of-taps n))) (λ n w. split n w.row w.in-line w.faulty) h
@@ -325,9 +323,9 @@ module _ (f : Feeder) (x : Reported) (sizes : RowsMatch f x) where
   unfolding voltage_off below_off below
   off-counts w k q o = go (voltage_off f x worked) refl
     where
-      go : (c : Found) → voltage_off f x worked ≡ c → (n : ℕ) × ReportRowAt Fault54 f x n
-      go (At n) h = (n, ((finds-54 w).at n h).faulty)
-      go Nothing h =
+      go : (c : Option ℕ) → voltage_off f x worked ≡ c → (n : ℕ) × ReportRowAt Fault54 f x n
+      go (Some n) h = (n, ((finds-54 w).at n h).faulty)
+      go None h =
           let none = nodes-none (λ k. off f x worked k && not (below_off f x worked k)) 1 (row_count f) h in
           clash (off f x worked k) (means-off k o)
           (none-off (off f x worked) (parent f) (row_count f) w.parents w.reached none (row_count f) k q (w.reached k q)).0

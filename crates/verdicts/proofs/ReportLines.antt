@@ -1,9 +1,8 @@
 -- Line n of a report is the text of the row that stands in line n (ReportFaults). Assumes nothing.
-use Rattle.std.specs.Prelude.{not, true, List, [], ◌∷◌, map, ◌≡◌, refl, ◌+◌, suc, zero, ℕ, ℤ, drop, length, take}
+use Rattle.std.specs.Prelude.{not, true, List, [], ◌∷◌, map, ◌≡◌, refl, ◌+◌, suc, zero, ℕ, ℤ, drop, length, take, Ok}
 use Rattle.std.proofs.Common.{◌∙◌, ap, subst, arith}
 use Prim.Native.String.{String}
 use Rattle.answers.specs.AnswerLaws.{bound, not-if, same_good}
-use Rattle.answers.specs.Answers.{good}
 use Rattle.answers.specs.declared.Refusal.TheVariants.{ReportLayout}
 use Rattle.feeder.specs.Faults.{Stands}
 use Rattle.feeder.specs.Feeder.{Feeder, regulators, row_count}
@@ -17,15 +16,15 @@ use Rattle.report.specs.Report.{Reported, branch_header, node_header, report_of,
 use Rattle.report.proofs.ReportRead.{numbers-row, report-is}
 use Rattle.report.proofs.ReportRows.{TapsRead, report-parts, taps-read}
 use Rattle.verdicts.specs.ReportFaults.{InReportLine, ReportRow, of_branches, of_nodes, of_taps, report_written_as}
-use Rattle.text.specs.Lines.{Placed, Row, row, row_text, text}
+use Rattle.text.specs.Lines.{Row, row, row_text, text}
 use Rattle.text.specs.RowText.{row-read}
-use Rattle.text.specs.Text.{bytes, decimal, joined, line}
+use Rattle.text.specs.Text.{bytes, decimal, joined, line, Placed}
 
 -- ---- the rows that are read are lines
 abbrev Line : Row → Type 0
 Line y = OneLine (row_text y)
 
-rows-are-lines : (k m n : ℕ) (s : List ℕ) (at : ℕ) (l : List Row) (p : ℕ) → rows_just k m (suc n) s at ≡ good (l, p) → All Line l
+rows-are-lines : (k m n : ℕ) (s : List ℕ) (at : ℕ) (l : List Row) (p : ℕ) → rows_just k m (suc n) s at ≡ Ok (l, p) → All Line l
 unfolding rows_just
 rows-are-lines zero m n s at l p e = subst (λ (y : Placed (List Row)). All Line y.0) (same_good ([], at) (l, p) e) tt
 rows-are-lines (suc k) m n s at l p e =
@@ -36,7 +35,7 @@ rows-are-lines (suc k) m n s at l p e =
     subst (λ (y : Placed (List Row)). All Line y.0) (same_good (x ∷ b.value.0, b.value.1) (l, p) b.rest)
     (first, rows-are-lines k m n s a.value.1 b.value.0 b.value.1 b.came)
 
-table-is-lines : (header : String) (k m n : ℕ) (s : List ℕ) (l : List Row) (p : ℕ) → table_of header k m (suc n) s ≡ good (l, p) → All Line l
+table-is-lines : (header : String) (k m n : ℕ) (s : List ℕ) (l : List Row) (p : ℕ) → table_of header k m (suc n) s ≡ Ok (l, p) → All Line l
 unfolding table_of
 table-is-lines header k m n s l p e =
     let a = bound (text ReportLayout header s 0) _ (l, p) e in
@@ -45,12 +44,12 @@ table-is-lines header k m n s l p e =
     subst (λ (y : Placed (List Row)). All Line y.0) (same_good (b.value.0, c.value) (l, p) c.rest)
     (rows-are-lines k m n s a.value b.value.0 b.value.1 b.came)
 
-tap-table-is-lines : (k : ℕ) (s : List ℕ) (l : List Row) → tap_table k s ≡ good l → All Line l
+tap-table-is-lines : (k : ℕ) (s : List ℕ) (l : List Row) → tap_table k s ≡ Ok l → All Line l
 unfolding tap_table
 tap-table-is-lines k s l e =
     let a = bound (text ReportLayout tap_header s 0) _ l e in
     let b = bound (rows_just k 1 3 s a.value) _ l a.rest in
-    let c = not-if (not (file_end s b.value.1)) ReportLayout (good b.value.0) l b.rest in
+    let c = not-if (not (file_end s b.value.1)) ReportLayout (Ok b.value.0) l b.rest in
     subst (λ (y : List Row). All Line y) (same_good b.value.0 l c.1) (rows-are-lines k 1 2 s a.value b.value.0 b.value.1 b.came)
 
 -- ---- the tables' names
@@ -109,7 +108,7 @@ report-line x a (of_taps k y) n h =
     (behind-lines (bytes totals_header) totals-names.ended (behind-lines t a.totals.ended (behind-lines (bytes "\n") empty-line.ended (behind-lines (bytes tap_header) tap-names.ended
     (row-line-is row_text l h.1.0)))))))
 
-report-lined : (f : Feeder) (t : List ℕ) (x : Reported) → report_of f t ≡ good x → Lined x
+report-lined : (f : Feeder) (t : List ℕ) (x : Reported) → report_of f t ≡ Ok x → Lined x
 unfolding totals_row
 report-lined f t x e =
     let w = report-parts f t x e in
@@ -125,5 +124,5 @@ report-lined f t x e =
     }
 
 -- "Lines count from 1, empty ones too"
-pub line-of-report-row : (f : Feeder) (t : List ℕ) (x : Reported) → report_of f t ≡ good x → (y : ReportRow) (n : ℕ) → InReportLine x y n → line_at n t ≡ report_written_as y
+pub line-of-report-row : (f : Feeder) (t : List ℕ) (x : Reported) → report_of f t ≡ Ok x → (y : ReportRow) (n : ℕ) → InReportLine x y n → line_at n t ≡ report_written_as y
 line-of-report-row f t x e y n h = ap (line_at n) (report-is f t x e) ∙ line-is (report-line x (report-lined f t x e) y n h)

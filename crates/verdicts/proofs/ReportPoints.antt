@@ -1,30 +1,26 @@
 -- The check points at the first row with a fault, in the feeder's file and in the report, in the order in which it tries them (ReportFaults). Assumes nothing.
-use Rattle.std.specs.Prelude.{false, not, List, map, ◌≡◌, ◌≤◌, suc, ℕ, length}
+use Rattle.std.specs.Prelude.{false, not, List, map, ◌≡◌, ◌≤◌, suc, ℕ, length, Option, Ok, Err}
 use Rattle.std.proofs.Common.{◌∙◌, subst, arith}
 use Rattle.std.proofs.Math.Path.{ap, refl, sym}
 use borrow.Author.Tests.{le-ltb, ltb-false}
 use Rattle.answers.specs.AnswerLaws.{not-refused, same_good, same-refused, stopped}
-use Rattle.answers.specs.Answers.{Done, Outcome, ◌>>=◌, ◌>>◌, done, good, refuse_at, refuse_if, refused}
-use Rattle.answers.specs.declared.Found.{Found}
+use Rattle.answers.specs.Answers.{Done, Outcome, ◌>>=◌, ◌>>◌, done, refuse_at, refuse_if}
 use Rattle.answers.specs.declared.Refusal.{Refusal}
 use Rattle.answers.specs.declared.Refusal.TheVariants.{CurrentBeyond, CurrentDiffers, LoadBeyond, NameDiffers, SourceDiffers, TapDiffers, TooLong, TotalDiffers, VoltageOff, ZeroVoltage}
 use Rattle.compare.specs.Differences.{current_differs, name_differs, source_differs, tap_differs, total_differs}
 use Rattle.equations.specs.Equations.{current_beyond, load_beyond, voltages, zero_voltage}
-use Rattle.feeder.specs.Faults.{None, PointsAt}
+use Rattle.feeder.specs.Faults.{NoLine, PointsAt}
 use Rattle.feeder.specs.Feeder.{Feeder, branch_at, level_of, reading, regulators, rows_of, too_long}
 use Rattle.feeder.proofs.FeederPoints.{ByReading, points-into-feeder, reading-short, reading-turn}
 use Rattle.feeder.specs.Pointing.{Finds, Late, Link, finds-same, late-at, late-good, late-if, next-if, relink, step, turn}
-use Rattle.feeder.specs.declared.Three.{Three}
+use Rattle.feeder.specs.Phased.{Three}
 use Rattle.report.specs.Report.{Reported, report_of, reported_voltages, tap_row, with_reported}
 use Rattle.report.proofs.ReportRows.{RowsMatch, only-50, rows-match}
-use Rattle.verdicts.specs.Check.{check_of, checked, compared, verdict_of, voltage_off}
+use Rattle.verdicts.specs.Check.{checked, compared, voltage_off}
 use Rattle.verdicts.specs.CheckChain.{checked-then, from30, from51, from52, from53, from54, from55, from56}
-use Rattle.verdicts.proofs.Passed.{fail-refused}
 use Rattle.verdicts.specs.ReportFaults.{CheckPoints, Fault51, Fault52, Fault53, Fault54, Fault56, ForTaps, Free32, Free51, Free52, Free53, Free55, PointsIntoReport, ReportFaultAt, ReportRow, ReportRowAt, worked_currents}
 use Rattle.verdicts.proofs.ReportFinds.{finds-51, finds-52, finds-53, finds-54}
 use Rattle.verdicts.proofs.ReportLines.{line-of-report-row}
-use Rattle.verdicts.specs.declared.Verdict.{Verdict}
-use Rattle.verdicts.specs.declared.Verdict.TheVariants.{Fail}
 use Rattle.feeder.proofs.FeederLaws.{Sound, sound}
 use Rattle.feeder.proofs.RowFacts.{Formed, formed}
 use Rattle.feeder.proofs.TapLaws.{Retapped, regulators-same, retapped-self}
@@ -35,22 +31,22 @@ use Rattle.verdicts.proofs.TapFinds.{finds-56}
 
 module _ (s t : List ℕ) where
   abbrev Tells : Refusal → Type 0
-  Tells y = check_of s t ≡ Fail y
+  Tells y = checked s t ≡ Err y
 
   -- what comes behind 9 of the report
   behind9 : Outcome Done
-  behind9 = reading s >>= λ f. report_of f t >>= λ x. compared (with_reported f x) x >> (refuse_at TapDiffers (tap_differs f x) >> good done)
+  behind9 = reading s >>= λ f. report_of f t >>= λ x. compared (with_reported f x) x >> (refuse_at TapDiffers (tap_differs f x) >> Ok done)
 
   link9 : Link Tells 1 17 (length t ≤ 65536) behind9
-  unfolding check_of checked behind9
+  unfolding checked behind9
   link9 = relink (λ h. ltb-false 65536 (length t) h.1) (λ h. (tt, le-ltb 65536 (length t) h)) (next-if 0 17 (too_long t) TooLong behind9 refl whole)
     where
       whole : Link Tells 0 17 (Unit {0}) (checked s t)
-      whole = record { into = λ h y e. ap verdict_of e; back = λ y p q h. (tt, fail-refused (checked s t) y h) }
+      whole = record { into = λ h y e. e; back = λ y p q h. (tt, h) }
 
   -- ---- the feeder or the report is not read: no row of it has a fault, and none of 51 to 54 and 56 is told
-  module _ (y : Refusal) (early : turn y ≤ 8) (stops : behind9 ≡ refused y)
-      (none : (Fault : Feeder → Reported → ReportRow → Type 0) → None (ReportFaultAt Fault s t)) where
+  module _ (y : Refusal) (early : turn y ≤ 8) (stops : behind9 ≡ Err y)
+      (none : (Fault : Feeder → Reported → ReportRow → Type 0) → NoLine (ReportFaultAt Fault s t)) where
     silent : (c : Refusal) → 9 ≤ turn c → turn c ≤ 17 → Tells c → ⊥
     silent c p q h = let w = link9.back c (omega arith) q h in let e = ap turn (same-refused y c (sym stops ∙ w.1)) in omega arith
 
@@ -72,9 +68,9 @@ module _ (s t : List ℕ) where
     }
 
   -- ---- both are read: the rest is a chain of tests
-  module _ (f : Feeder) (x : Reported) (feeder-read : reading s ≡ good f) (report-read : report_of f t ≡ good x) where
+  module _ (f : Feeder) (x : Reported) (feeder-read : reading s ≡ Ok f) (report-read : report_of f t ≡ Ok x) where
     -- the feeder and the report that a fault speaks of are these two
-    same_read : (P : Feeder → Reported → Type 0) (g : Feeder) (y : Reported) → reading s ≡ good g → report_of g t ≡ good y → (P g y → P f x) × (P f x → P g y)
+    same_read : (P : Feeder → Reported → Type 0) (g : Feeder) (y : Reported) → reading s ≡ Ok g → report_of g t ≡ Ok y → (P g y → P f x) × (P f x → P g y)
     same_read P g y p q =
         let e : g ≡ f = same_good g f (sym p ∙ feeder-read) in
         let v : y ≡ x = same_good y x (sym q ∙ ap (λ (k : Feeder). report_of k t) e ∙ report-read) in
@@ -135,7 +131,7 @@ module _ (s t : List ℕ) where
 
     late56 : Late 17 last
     unfolding from56
-    late56 = late-at 17 TapDiffers (tap_differs f x) (good done) (λ n. refl) (late-good 18 done)
+    late56 = late-at 17 TapDiffers (tap_differs f x) (Ok done) (λ n. refl) (late-good 18 done)
 
     late55 : Late 16 (from55 last g x)
     unfolding from55
@@ -157,12 +153,12 @@ module _ (s t : List ℕ) where
     unfolding from52
     late52 = late-at 10 SourceDiffers (source_differs g x) (from30 last g x) (λ n. refl) late30
 
-    late51 : Late 9 (compared g x >> (refuse_at TapDiffers (tap_differs f x) >> good done))
+    late51 : Late 9 (compared g x >> (refuse_at TapDiffers (tap_differs f x) >> Ok done))
     unfolding from51
     late51 = rw (checked-then f x) (late-at 9 NameDiffers (name_differs g x) (from52 last g x) (λ n. refl) late52)
 
     -- what is found of the tables is found of the texts
-    text-finds : {Fault : Feeder → Reported → ReportRow → Type 0} {l : Found} → Finds l (ReportRowAt Fault g x) → Finds l (ReportFaultAt (ForTaps Fault) s t)
+    text-finds : {Fault : Feeder → Reported → ReportRow → Type 0} {l : Option ℕ} → Finds l (ReportRowAt Fault g x) → Finds l (ReportFaultAt (ForTaps Fault) s t)
     text-finds {Fault} = finds-same (λ n w. in-texts (ForTaps Fault) n (for-taps Fault n w)) (λ n w. of-taps Fault n (in_tables (ForTaps Fault) n w))
 
     link51 : Link Tells 9 17 (length t ≤ 65536) (refuse_at NameDiffers (name_differs g x) >> from52 last g x)
@@ -197,7 +193,7 @@ module _ (s t : List ℕ) where
     unfolding from53
     step53 = step 14 17 CurrentDiffers (current_differs g x i) (from54 last g x) (λ n. refl) (λ n. refl) (omega arith) late54 (λ h. text-finds (finds-53 g x taps-sizes)) link53
 
-    step54 : PointsAt (λ n. Tells (VoltageOff n)) (ReportFaultAt (ForTaps Fault54) s t) (Free53 s t) × Link Tells 16 17 (Free53 s t × None (ReportFaultAt (ForTaps Fault54) s t)) (from55 last g x)
+    step54 : PointsAt (λ n. Tells (VoltageOff n)) (ReportFaultAt (ForTaps Fault54) s t) (Free53 s t) × Link Tells 16 17 (Free53 s t × NoLine (ReportFaultAt (ForTaps Fault54) s t)) (from55 last g x)
     unfolding from54
     step54 = step 15 17 VoltageOff (voltage_off g x (voltages g i)) (from55 last g x) (λ n. refl) (λ n. refl) (omega arith) late55 (λ h. text-finds (finds-54 g x taps-sizes form)) step53.1
 
@@ -210,44 +206,44 @@ module _ (s t : List ℕ) where
 
     step56 : PointsAt (λ n. Tells (TapDiffers n)) (ReportFaultAt Fault56 s t) (Free55 s t)
     unfolding from56
-    step56 = (step 17 17 TapDiffers (tap_differs f x) (good done) (λ n. refl) (λ n. refl) (omega arith) (late-good 18 done)
+    step56 = (step 17 17 TapDiffers (tap_differs f x) (Ok done) (λ n. refl) (λ n. refl) (omega arith) (late-good 18 done)
         (λ h. finds-same (in-texts Fault56) (in_tables Fault56) (finds-56 s f feeder-sound x sizes)) link56).0
 
     points-at-rows : PointsIntoReport s t Tells
     points-at-rows = record { at-51 = step51.0; at-52 = step52.0; at-53 = step53.0; at-54 = step54.0; at-56 = step56 }
 
-check-points-report : (s t : List ℕ) → PointsIntoReport s t (λ y. check_of s t ≡ Fail y)
+check-points-report : (s t : List ℕ) → PointsIntoReport s t (λ y. checked s t ≡ Err y)
 unfolding behind9
 check-points-report s t = feeder (reading s) refl
   where
-    report : (f : Feeder) → reading s ≡ good f → (o : Outcome Reported) → report_of f t ≡ o → PointsIntoReport s t (λ y. check_of s t ≡ Fail y)
-    report f e (good x) w = points-at-rows s t f x e w
-    report f e (refused y) w =
+    report : (f : Feeder) → reading s ≡ Ok f → (o : Outcome Reported) → report_of f t ≡ o → PointsIntoReport s t (λ y. checked s t ≡ Err y)
+    report f e (Ok x) w = points-at-rows s t f x e w
+    report f e (Err y) w =
         let z = ap turn ((only-50 f t).each y w) in
         points-nowhere s t y (omega arith) (rw (e, w)) (λ F n h.
         let g : f ≡ h.feeder = same_good f h.feeder (sym e ∙ h.feeder-read) in
         not-refused y h.report (sym w ∙ ap (λ (k : Feeder). report_of k t) g ∙ h.report-read))
 
-    feeder : (o : Outcome Feeder) → reading s ≡ o → PointsIntoReport s t (λ y. check_of s t ≡ Fail y)
-    feeder (good f) e = report f e (report_of f t) refl
-    feeder (refused y) e =
+    feeder : (o : Outcome Feeder) → reading s ≡ o → PointsIntoReport s t (λ y. checked s t ≡ Err y)
+    feeder (Ok f) e = report f e (report_of f t) refl
+    feeder (Err y) e =
         let z = (reading-turn s).each y e in
         points-nowhere s t y (omega arith) (rw e) (λ F n h. not-refused y h.feeder (sym e ∙ h.feeder-read))
 
 -- ---- and it goes by the reading of the feeder
-check-reads : (s t : List ℕ) → ByReading s ((length s ≤ 65536) × (length t ≤ 65536)) (λ y. check_of s t ≡ Fail y)
+check-reads : (s t : List ℕ) → ByReading s ((length s ≤ 65536) × (length t ≤ 65536)) (λ y. checked s t ≡ Err y)
 unfolding behind9
 check-reads s t = record {
   short = λ h. h.0;
   into = λ h y e. (link9 s t).into h.1 y (rw e);
   back = λ y p q h.
       let b = (link9 s t).back y (omega arith) (omega arith) h in
-      stopped (reading s) (λ f. report_of f t >>= λ x. compared (with_reported f x) x >> (refuse_at TapDiffers (tap_differs f x) >> good done)) y b.1
+      stopped (reading s) (λ f. report_of f t >>= λ x. compared (with_reported f x) x >> (refuse_at TapDiffers (tap_differs f x) >> Ok done)) y b.1
       (λ e. ((reading-short s y e (omega arith), b.0), e))
-      (λ f e g. stopped (report_of f t) (λ x. compared (with_reported f x) x >> (refuse_at TapDiffers (tap_differs f x) >> good done)) y g
+      (λ f e g. stopped (report_of f t) (λ x. compared (with_reported f x) x >> (refuse_at TapDiffers (tap_differs f x) >> Ok done)) y g
       (λ w. let z = ap turn ((only-50 f t).each y w) in absurd (omega arith))
       (λ x w v. let z = (late51 s t f x e w).each y v in absurd (omega arith)));
 }
 
-pub check-points : (s t : List ℕ) {v : Verdict} → v ≡ check_of s t → CheckPoints s t v
+pub check-points : (s t : List ℕ) {v : Outcome Done} → v ≡ checked s t → CheckPoints s t v
 check-points s t e = rw e (record { feeder = points-into-feeder s (check-reads s t); report = check-points-report s t })

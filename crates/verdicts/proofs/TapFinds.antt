@@ -15,10 +15,8 @@ use Rattle.equations.specs.Taps.{moved_on, moved_tap, moved_taps, relay_voltage,
 use Rattle.feeder.specs.Feeder.{Feeder, abc, branch_at, branch_in, centivolts, column_of, device_of, feeder_of, has, impedance, in_limit, level_of, no_phases, no_taps, ratio, regulates, regulators, row_count, rows_of, tap_at, tapped_branch}
 use Rattle.feeder.specs.RowLaws.{false-some, some-false}
 use Rattle.feeder.specs.declared.Phase.{Phase}
-use Rattle.feeder.specs.declared.Phases.{Phases}
+use Rattle.feeder.specs.Phased.{Phases, Taps, Three}
 use Rattle.feeder.specs.declared.TapChanger.{TapChanger}
-use Rattle.feeder.specs.declared.Taps.{Taps}
-use Rattle.feeder.specs.declared.Three.{Three}
 use Rattle.integers.specs.Bools.{both, clash, fails-test}
 use Rattle.integers.specs.Lists.{All, all}
 use Rattle.integers.specs.Pairs.{inside, square}

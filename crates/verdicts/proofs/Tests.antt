@@ -1,9 +1,8 @@
 -- What the tests of a pass say of the report's numbers, and when they are met: 52 the source, 53 the currents, 54 the voltages, 55 losses and totals. Assumes nothing.
-use Rattle.std.specs.Prelude.{Bool, ◌&&◌, List, ◌∷◌, ◌≡◌, ◌+◌, ◌<◌, suc, ℕ, get_or}
+use Rattle.std.specs.Prelude.{Bool, ◌&&◌, List, ◌∷◌, ◌≡◌, ◌+◌, ◌<◌, suc, ℕ, get_or, None}
 use Rattle.std.proofs.Math.Bool.{cond, false, not, true}
 use Rattle.std.proofs.Math.Path.{ap, refl}
 use Rattle.std.proofs.lemmas.Bool.{not-false}
-use Rattle.answers.specs.declared.Found.TheVariants.{Nothing}
 use Rattle.equations.specs.Downward.{below, none-off}
 use Rattle.equations.specs.Equations.{at, currents, drawn_power, loss_of, lost_power, source_power, voltages, zero3}
 use Rattle.equations.specs.ThreeLaws.{Close3, three-eq}
@@ -11,7 +10,7 @@ use Rattle.feeder.specs.Feeder.{Feeder, abc, has, parent, phases_of, row_count, 
 use Rattle.feeder.proofs.RowFacts.{Formed}
 use Rattle.feeder.specs.RowLaws.{each-true, held, nodes-none, none-nodes, none_or, none_rows, or-none, rows_none, true-each}
 use Rattle.feeder.specs.declared.Phase.{Phase}
-use Rattle.feeder.specs.declared.Three.{Three}
+use Rattle.feeder.specs.Phased.{Three}
 use Rattle.integers.specs.Bools.{both, joined}
 use Rattle.integers.specs.ListLaws.{all_map, all_true, true-all}
 use Rattle.integers.specs.Lists.{All, all}
@@ -82,7 +81,7 @@ equal-same {x} {y} e = rw e (true_same y)
 
 module _ (f : Feeder) (r : Reported) where
   -- 52, with "absent phases 0"
-  pub meets52 : get_or (reported_voltages r) 0 zero3 ≡ f.source → ((k : ℕ) → k < suc (row_count f) → (p : Phase) → has (phases_of f k) p ≡ false → at (get_or (reported_voltages r) k zero3) p ≡ 0c) → source_differs f r ≡ Nothing
+  pub meets52 : get_or (reported_voltages r) 0 zero3 ≡ f.source → ((k : ℕ) → k < suc (row_count f) → (p : Phase) → has (phases_of f k) p ≡ false → at (get_or (reported_voltages r) k zero3) p ≡ 0c) → source_differs f r ≡ None
   unfolding source_differs
   meets52 s z = none_or (rw (true-same3 s)) (none-nodes (λ k. not (all (λ p. cond (has (phases_of f k) p) true (same (at (get_or (reported_voltages r) k zero3) p) 0c)) abc)) 1 (row_count f)
       (λ k q. ap not (true-each _ (λ p. zero-there k p (has (phases_of f k) p) refl (z k q p)))))
@@ -91,11 +90,11 @@ module _ (f : Feeder) (r : Reported) where
       zero-there k p true e w = refl
       zero-there k p false e w = equal-same (w e)
 
-  pub meets53 : (i : List Three) → ((k : ℕ) → k < row_count f → get_or (reported_currents r) (suc k) zero3 ≡ get_or i (suc k) zero3) → current_differs f r i ≡ Nothing
+  pub meets53 : (i : List Three) → ((k : ℕ) → k < row_count f → get_or (reported_currents r) (suc k) zero3 ≡ get_or i (suc k) zero3) → current_differs f r i ≡ None
   unfolding current_differs
   meets53 i h = none_rows (λ k. not (same3 (get_or (reported_currents r) k zero3) (get_or i k zero3))) (row_count f + 4) (row_count f) (λ k q. ap not (true-same3 (h k q)))
 
-  pub meets54 : (u : List Three) → ((k : ℕ) → k < suc (row_count f) → Close3 f.tol (get_or u k zero3) (get_or (reported_voltages r) k zero3)) → voltage_off f r u ≡ Nothing
+  pub meets54 : (u : List Three) → ((k : ℕ) → k < suc (row_count f) → Close3 f.tol (get_or u k zero3) (get_or (reported_voltages r) k zero3)) → voltage_off f r u ≡ None
   unfolding voltage_off off
   meets54 u h = none-nodes (λ k. off f r u k && not (below_off f r u k)) 1 (row_count f)
       (λ k q. let z : off f r u k ≡ false = ap not (true-each _ (λ p. true-close (h k q p))) in ap (λ c. c && not (below_off f r u k)) z)

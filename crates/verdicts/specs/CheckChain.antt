@@ -1,8 +1,6 @@
 -- The check from each of its tests on, behind the report's layout. Assumes nothing.
-use Rattle.std.specs.Prelude.{Bool, false, true, ◌≡◌, refl, ℕ}
-use Rattle.answers.specs.Answers.{Done, Outcome, ◌>>◌, done, good, refuse_at, refuse_if}
-use Rattle.answers.specs.declared.Found.{Found}
-use Rattle.answers.specs.declared.Found.TheVariants.{At, Nothing}
+use Rattle.std.specs.Prelude.{Bool, false, true, ◌≡◌, refl, ℕ, Option, Some, None, Ok}
+use Rattle.answers.specs.Answers.{Done, Outcome, ◌>>◌, done, refuse_at, refuse_if}
 use Rattle.answers.specs.declared.Refusal.{Refusal}
 use Rattle.answers.specs.declared.Refusal.TheVariants.{CurrentBeyond, CurrentDiffers, LoadBeyond, NameDiffers, SourceDiffers, TapDiffers, TotalDiffers, VoltageOff, ZeroVoltage}
 use Rattle.compare.specs.Differences.{current_differs, name_differs, source_differs, tap_differs, total_differs}
@@ -34,12 +32,12 @@ from51 last f x = refuse_at NameDiffers (name_differs f x) >> from52 last f x
 
 -- 56, of the feeder as it was filed
 unfoldable pub from56 : Feeder → Reported → Outcome Done
-from56 f x = refuse_at TapDiffers (tap_differs f x) >> good done
+from56 f x = refuse_at TapDiffers (tap_differs f x) >> Ok done
 
 -- what comes behind a test of several comes behind the last of them
-after-at : (r : ℕ → Refusal) (l : Found) (o last : Outcome Done) → ((refuse_at r l >> o) >> last) ≡ (refuse_at r l >> (o >> last))
-after-at r (At n) o last = refl
-after-at r Nothing o last = refl
+after-at : (r : ℕ → Refusal) (l : Option ℕ) (o last : Outcome Done) → ((refuse_at r l >> o) >> last) ≡ (refuse_at r l >> (o >> last))
+after-at r (Some n) o last = refl
+after-at r None o last = refl
 
 after-if : (c : Bool) (r : Refusal) (o last : Outcome Done) → ((refuse_if c r >> o) >> last) ≡ (refuse_if c r >> (o >> last))
 after-if true r o last = refl
@@ -49,11 +47,11 @@ pub compared-then : (last : Outcome Done) (f : Feeder) (x : Reported) → (compa
 unfolding compared from51 from52 from30 from53 from54 from55
 compared-then last f x = simp (after-at, after-if)
 
-pub compared_is : (f : Feeder) (x : Reported) → compared f x ≡ from51 (good done) f x
+pub compared_is : (f : Feeder) (x : Reported) → compared f x ≡ from51 (Ok done) f x
 unfolding compared from51 from52 from30 from53 from54 from55
 compared_is f x = refl
 
 -- all that comes behind the report's layout
-pub checked-then : (f : Feeder) (x : Reported) → (compared (with_reported f x) x >> (refuse_at TapDiffers (tap_differs f x) >> good done)) ≡ from51 (from56 f x) (with_reported f x) x
+pub checked-then : (f : Feeder) (x : Reported) → (compared (with_reported f x) x >> (refuse_at TapDiffers (tap_differs f x) >> Ok done)) ≡ from51 (from56 f x) (with_reported f x) x
 unfolding from56
 checked-then f x = compared-then (from56 f x) (with_reported f x) x

@@ -1,25 +1,22 @@
 -- Which rows of a report have a fault of 51 to 54 (01, 'Refusals') or of 56 (02, S-5), and that the check points at the first of them (02, S-4). Into the
 -- feeder's file it points as the study does. Nothing here searches the rows. Assumes nothing.
-use Rattle.std.specs.Prelude.{false, true, List, ◌⊎◌, ◌≡◌, ◌+◌, ◌<◌, ◌≤◌, suc, ℕ, ◌+ℤ◌, ◌-ℤ◌, pos, ℤ, get_or, length}
-use Rattle.answers.specs.Answers.{good}
+use Rattle.std.specs.Prelude.{false, true, List, ◌⊎◌, ◌≡◌, ◌+◌, ◌<◌, ◌≤◌, suc, ℕ, ◌+ℤ◌, ◌-ℤ◌, pos, ℤ, get_or, length, Ok, Err}
+use Rattle.answers.specs.Answers.{Done, Outcome}
 use Rattle.answers.specs.declared.Refusal.{Refusal}
 use Rattle.answers.specs.declared.Refusal.TheVariants.{CurrentDiffers, NameDiffers, SourceDiffers, TapDiffers, VoltageOff}
 use Rattle.compare.specs.Differences.{name_at_node, total_differs}
 use Rattle.equations.specs.Equations.{at, current_beyond, currents, load_beyond, voltages, zero3, zero_voltage}
 use Rattle.equations.specs.Taps.{relay_voltage, wants_down, wants_up}
-use Rattle.feeder.specs.Faults.{None, PointsAt, PointsIntoFeeder, Stands}
+use Rattle.feeder.specs.Faults.{NoLine, PointsAt, PointsIntoFeeder, Stands}
 use Rattle.feeder.specs.Feeder.{Feeder, above, branch_at, has, parent, phases_of, reading, regulators, tap_at, three_at}
 use Rattle.feeder.specs.File.{line_at}
 use Rattle.feeder.specs.declared.Device.TheVariants.{Regulator}
 use Rattle.feeder.specs.declared.Phase.{Phase}
 use Rattle.feeder.specs.declared.TapChanger.{TapChanger}
-use Rattle.feeder.specs.declared.Taps.{Taps}
-use Rattle.feeder.specs.declared.Three.{Three}
+use Rattle.feeder.specs.Phased.{Taps, Three}
 use Rattle.integers.specs.Pairs.{0c, close, inside}
 use Rattle.integers.specs.declared.Pair.{Pair}
 use Rattle.report.specs.Report.{Reported, report_of, reported_currents, reported_voltages, with_reported}
-use Rattle.verdicts.specs.declared.Verdict.{Verdict}
-use Rattle.verdicts.specs.declared.Verdict.TheVariants.{Fail}
 use Rattle.text.specs.Lines.{Row, nth, row_text, word_of}
 
 -- ---- the rows of a report by their lines
@@ -140,35 +137,35 @@ pub record ReportRowAt (Fault : Feeder → Reported → ReportRow → Type 0) (f
 pub record ReportFaultAt (Fault : Feeder → Reported → ReportRow → Type 0) (s t : List ℕ) (n : ℕ) : Type 0 where
   pub feeder : Feeder
   pub report : Reported
-  pub feeder-read : reading s ≡ good feeder
-  pub report-read : report_of feeder t ≡ good report
+  pub feeder-read : reading s ≡ Ok feeder
+  pub report-read : report_of feeder t ≡ Ok report
   pub here : ReportRowAt Fault feeder report n
   pub written : line_at n t ≡ report_written_as here.row
 
 -- ---- what the check promises of a number that comes with a line
 -- "The check goes 9 to 24, 50 to 52, 30 to 32 .. then 53 to 55", then 56: the report is short enough for 9, and no row has the fault named, nor one of those named before it
 abbrev pub Free51 : List ℕ → List ℕ → Type 0
-Free51 s t = (length t ≤ 65536) × None (ReportFaultAt (ForTaps Fault51) s t)
+Free51 s t = (length t ≤ 65536) × NoLine (ReportFaultAt (ForTaps Fault51) s t)
 
 abbrev pub Free52 : List ℕ → List ℕ → Type 0
-Free52 s t = Free51 s t × None (ReportFaultAt (ForTaps Fault52) s t)
+Free52 s t = Free51 s t × NoLine (ReportFaultAt (ForTaps Fault52) s t)
 
 -- 30 to 32 do not apply either
 pub record Free32 (s t : List ℕ) : Type 0 where
   pub before : Free52 s t
-  pub not-30 : (f : Feeder) (x : Reported) → reading s ≡ good f → report_of f t ≡ good x → zero_voltage (with_reported f x) (reported_voltages x) ≡ false
-  pub not-31 : (f : Feeder) (x : Reported) → reading s ≡ good f → report_of f t ≡ good x → load_beyond (with_reported f x) (reported_voltages x) ≡ false
-  pub not-32 : (f : Feeder) (x : Reported) → reading s ≡ good f → report_of f t ≡ good x → current_beyond (with_reported f x) (worked_currents (with_reported f x) x) ≡ false
+  pub not-30 : (f : Feeder) (x : Reported) → reading s ≡ Ok f → report_of f t ≡ Ok x → zero_voltage (with_reported f x) (reported_voltages x) ≡ false
+  pub not-31 : (f : Feeder) (x : Reported) → reading s ≡ Ok f → report_of f t ≡ Ok x → load_beyond (with_reported f x) (reported_voltages x) ≡ false
+  pub not-32 : (f : Feeder) (x : Reported) → reading s ≡ Ok f → report_of f t ≡ Ok x → current_beyond (with_reported f x) (worked_currents (with_reported f x) x) ≡ false
 
 abbrev pub Free53 : List ℕ → List ℕ → Type 0
-Free53 s t = Free32 s t × None (ReportFaultAt (ForTaps Fault53) s t)
+Free53 s t = Free32 s t × NoLine (ReportFaultAt (ForTaps Fault53) s t)
 
 -- nor does 55
 pub record Free55 (s t : List ℕ) : Type 0 where
-  pub before : Free53 s t × None (ReportFaultAt (ForTaps Fault54) s t)
-  pub not-55 : (f : Feeder) (x : Reported) → reading s ≡ good f → report_of f t ≡ good x → total_differs (with_reported f x) x (reported_voltages x) (worked_currents (with_reported f x) x) ≡ false
+  pub before : Free53 s t × NoLine (ReportFaultAt (ForTaps Fault54) s t)
+  pub not-55 : (f : Feeder) (x : Reported) → reading s ≡ Ok f → report_of f t ≡ Ok x → total_differs (with_reported f x) x (reported_voltages x) (worked_currents (with_reported f x) x) ≡ false
 
--- `tells y` is that the verdict is the refusal y
+-- `tells y` is that the answer is the refusal y
 pub record PointsIntoReport (s t : List ℕ) (tells : Refusal → Type 0) : Type 0 where
   pub at-51 : PointsAt (λ n. tells (NameDiffers n)) (ReportFaultAt (ForTaps Fault51) s t) (length t ≤ 65536)
   pub at-52 : PointsAt (λ n. tells (SourceDiffers n)) (ReportFaultAt (ForTaps Fault52) s t) (Free51 s t)
@@ -176,7 +173,7 @@ pub record PointsIntoReport (s t : List ℕ) (tells : Refusal → Type 0) : Type
   pub at-54 : PointsAt (λ n. tells (VoltageOff n)) (ReportFaultAt (ForTaps Fault54) s t) (Free53 s t)
   pub at-56 : PointsAt (λ n. tells (TapDiffers n)) (ReportFaultAt Fault56 s t) (Free55 s t)
 
--- 02, S-4: a verdict with the number and the line of a fault points at the first row that has it, in the feeder or in the report
-pub record CheckPoints (s t : List ℕ) (v : Verdict) : Type 0 where
-  pub feeder : PointsIntoFeeder s ((length s ≤ 65536) × (length t ≤ 65536)) (λ y. v ≡ Fail y)
-  pub report : PointsIntoReport s t (λ y. v ≡ Fail y)
+-- 02, S-4: an answer with the number and the line of a fault points at the first row that has it, in the feeder or in the report
+pub record CheckPoints (s t : List ℕ) (v : Outcome Done) : Type 0 where
+  pub feeder : PointsIntoFeeder s ((length s ≤ 65536) × (length t ≤ 65536)) (λ y. v ≡ Err y)
+  pub report : PointsIntoReport s t (λ y. v ≡ Err y)

@@ -8,8 +8,8 @@ use Rattle.answer_text.proofs.put_refusal.Goals as goal
 use Rattle.answer_text.proofs.put_refusal.Goals.{After-line_width}
 
 -- the line that the two calls tell of
-line-is : (c : After-line_width) → let x = c.args.x in refused_line c.number_of-number.result c.value_of-value.result ≡ refused_line (number_of x) (value_of x)
-line-is c = ap₂ refused_line c.number_of-number.ensures c.value_of-value.ensures
+line-is : (c : After-line_width) → let x = c.args.x in refused_line c.number-number.result c.value-value.result ≡ refused_line (number_of x) (value_of x)
+line-is c = ap₂ refused_line c.number-number.ensures c.value-value.ensures
 
 pub returns-then-out-line_width : goal.returns-then-out-line_width
 returns-then-out-line_width c = rw (sym (line-is (goal.at.returns-then-out-line_width c).After-line_width)) (put-nothing _ _ (omega (arith, c.if-out-line_width.true, c.line_width.ensures)))

@@ -9,18 +9,6 @@ use Rattle.arrays.specs.Arrays.{kind_of}
 use borrow.Author.Rules.{rules}
 use Rattle.arrays.proofs.device_of.Goals as goal
 
-pub returns-in-L : goal.returns-in-L
-returns-in-L c =
-    let n = c.args.n.now in
-    let e : read (get_or n 4 (pos 0)) ≡ get_or n 4 (pos 0) = search rules in
-    c.line_of.ensures ∙ sym (ap (λ (k : Kind). device_of k (drop 5 n)) (sym (c.kind_of-kind.ensures ∙ ap kind_of e) ∙ c.in-L.is))
-
-pub returns-in-R : goal.returns-in-R
-returns-in-R c =
-    let n = c.args.n.now in
-    let e : read (get_or n 4 (pos 0)) ≡ get_or n 4 (pos 0) = search rules in
-    c.regulator_of.ensures ∙ sym (ap (λ (k : Kind). device_of k (drop 5 n)) (sym (c.kind_of-kind.ensures ∙ ap kind_of e) ∙ c.in-R.is))
-
 pub returns-in-Y : goal.returns-in-Y
 unfolding device_of
 returns-in-Y c =

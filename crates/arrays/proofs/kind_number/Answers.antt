@@ -1,21 +1,20 @@
 -- `arrays::kind_number` meets its contract: one number for each kind. Assumes nothing.
 use mathlib.Core.Path.{ap, sym}
 use Rattle.arrays.specs.Arrays.{kind_number}
-use borrow.Author.Rules.{rules}
 use Rattle.arrays.proofs.kind_number.Goals as goal
 
-pub returns-in-L : goal.returns-in-L
+pub returns-in-L-clause-value : goal.returns-in-L-clause-value
 unfolding kind_number
-returns-in-L c = record { value = sym (ap kind_number c.in-L.is); fits = search rules }
+returns-in-L-clause-value c = sym (ap kind_number c.in-L.is)
 
-pub returns-in-R : goal.returns-in-R
+pub returns-in-R-clause-value : goal.returns-in-R-clause-value
 unfolding kind_number
-returns-in-R c = record { value = sym (ap kind_number c.in-R.is); fits = search rules }
+returns-in-R-clause-value c = sym (ap kind_number c.in-R.is)
 
-pub returns-in-Y : goal.returns-in-Y
+pub returns-in-Y-clause-value : goal.returns-in-Y-clause-value
 unfolding kind_number
-returns-in-Y c = record { value = sym (ap kind_number c.in-Y.is); fits = search rules }
+returns-in-Y-clause-value c = sym (ap kind_number c.in-Y.is)
 
-pub returns-in-D : goal.returns-in-D
+pub returns-in-D-clause-value : goal.returns-in-D-clause-value
 unfolding kind_number
-returns-in-D c = record { value = sym (ap kind_number c.in-D.is); fits = search rules }
+returns-in-D-clause-value c = sym (ap kind_number c.in-D.is)

@@ -1,16 +1,20 @@
 -- `arrays::load_kind_of` meets its contract: one number for each kind. Assumes nothing.
+use Rattle.std.specs.Prelude.{refl}
+use Rattle.std.proofs.Common.{arith}
+use Rattle.std.proofs.lemmas.Bool.{lt-leb}
+use Rattle.integers.specs.Pairs.{inside}
 use Rattle.arrays.specs.Arrays.{load_kind_of}
 use Rattle.arrays.proofs.Told.{told}
 use Rattle.arrays.proofs.load_kind_of.Goals as goal
 
-pub returns-then-inside : goal.returns-then-inside
-unfolding load_kind_of
-returns-then-inside c = simp (told c.ranges.z 0 c.inside.ensures c.if-inside.true)
+pub returns-in-0 : goal.returns-in-0
+unfolding load_kind_of inside
+returns-in-0 c = rw (told c.ranges.z c.size.ensures, c.in-0.is) refl
 
-pub returns-then-inside-2 : goal.returns-then-inside-2
-unfolding load_kind_of
-returns-then-inside-2 c = simp (told c.ranges.z 0 c.inside.ensures c.if-inside.false, told c.ranges.z 1 c.inside-2.ensures c.if-inside-2.true)
+pub returns-in-1 : goal.returns-in-1
+unfolding load_kind_of inside
+returns-in-1 c = rw (told c.ranges.z c.size.ensures, c.in-1.is) refl
 
-pub returns : goal.returns
-unfolding load_kind_of
-returns c = simp (told c.ranges.z 0 c.inside.ensures c.if-inside.false, told c.ranges.z 1 c.inside-2.ensures c.if-inside-2.false)
+pub returns-in_default : goal.returns-in_default
+unfolding load_kind_of inside
+returns-in_default c = rw (told c.ranges.z c.size.ensures, lt-leb c.size.result 0 (omega arith), lt-leb c.size.result 1 (omega arith)) refl

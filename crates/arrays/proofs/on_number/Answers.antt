@@ -1,12 +1,15 @@
 -- `arrays::on_number` meets its contract: 1 or 0. Assumes nothing.
+use Rattle.std.specs.Prelude.{Bool, false, true, ◌≡◌, refl, pos}
+use Rattle.std.proofs.Common.{◌∙◌, rules}
+use mir.Val.{bool_byte}
+use Rattle.integers.specs.Machine.{read}
 use Rattle.arrays.specs.Arrays.{on_number}
-use borrow.Author.Rules.{rules}
 use Rattle.arrays.proofs.on_number.Goals as goal
 
-pub returns-then-b : goal.returns-then-b
+byte-is : (b : Bool) → pos (bool_byte b) ≡ on_number b
 unfolding on_number
-returns-then-b c = record { value = simp c.if-b.true; fits = search rules }
+byte-is true = refl
+byte-is false = refl
 
-pub returns-else-b : goal.returns-else-b
-unfolding on_number
-returns-else-b c = record { value = simp c.if-b.false; fits = search rules }
+pub returns-clause-value : goal.returns-clause-value
+returns-clause-value c = let z : read c.from.result ≡ c.from.result = search rules in z ∙ c.from.ensures ∙ byte-is c.args.b

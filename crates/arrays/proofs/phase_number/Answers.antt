@@ -1,29 +1,28 @@
 -- `arrays::phase_number` meets its contract: one number for each phase. Assumes nothing.
 use mathlib.Core.Path.{ap, sym}
 use Rattle.arrays.specs.Arrays.{phase_number}
-use borrow.Author.Rules.{rules}
 use Rattle.arrays.proofs.phase_number.Goals as goal
 
-pub returns-in-OnA : goal.returns-in-OnA
+pub returns-in-OnA-clause-value : goal.returns-in-OnA-clause-value
 unfolding phase_number
-returns-in-OnA c = record { value = sym (ap phase_number c.in-OnA.is); fits = search rules }
+returns-in-OnA-clause-value c = sym (ap phase_number c.in-OnA.is)
 
-pub returns-in-OnB : goal.returns-in-OnB
+pub returns-in-OnB-clause-value : goal.returns-in-OnB-clause-value
 unfolding phase_number
-returns-in-OnB c = record { value = sym (ap phase_number c.in-OnB.is); fits = search rules }
+returns-in-OnB-clause-value c = sym (ap phase_number c.in-OnB.is)
 
-pub returns-in-OnC : goal.returns-in-OnC
+pub returns-in-OnC-clause-value : goal.returns-in-OnC-clause-value
 unfolding phase_number
-returns-in-OnC c = record { value = sym (ap phase_number c.in-OnC.is); fits = search rules }
+returns-in-OnC-clause-value c = sym (ap phase_number c.in-OnC.is)
 
-pub returns-in-AB : goal.returns-in-AB
+pub returns-in-AB-clause-value : goal.returns-in-AB-clause-value
 unfolding phase_number
-returns-in-AB c = record { value = sym (ap phase_number c.in-AB.is); fits = search rules }
+returns-in-AB-clause-value c = sym (ap phase_number c.in-AB.is)
 
-pub returns-in-BC : goal.returns-in-BC
+pub returns-in-BC-clause-value : goal.returns-in-BC-clause-value
 unfolding phase_number
-returns-in-BC c = record { value = sym (ap phase_number c.in-BC.is); fits = search rules }
+returns-in-BC-clause-value c = sym (ap phase_number c.in-BC.is)
 
-pub returns-in-CA : goal.returns-in-CA
+pub returns-in-CA-clause-value : goal.returns-in-CA-clause-value
 unfolding phase_number
-returns-in-CA c = record { value = sym (ap phase_number c.in-CA.is); fits = search rules }
+returns-in-CA-clause-value c = sym (ap phase_number c.in-CA.is)

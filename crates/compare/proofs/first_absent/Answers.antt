@@ -16,23 +16,23 @@ tested : (c : After-absent_zero) → let a = c.args in let k = c.loop-k.k in
     absent_differs (branches_of a.branches.now) (threes_of a.voltages.now) k ≡ not c.absent_zero.result
 tested c =
     let a = c.args in
-    absent-at (branches_of a.branches.now) (threes_of a.voltages.now) c.loop-k.k c.loop-k.invariant.0 (c.absent_zero.ensures ∙ ap₂ absent_zero c.phases_at-phases.ensures c.three_at-v.ensures)
+    absent-at (branches_of a.branches.now) (threes_of a.voltages.now) c.loop-k.k (omega arith) (c.absent_zero.ensures ∙ ap₂ absent_zero c.phases_at-phases.ensures c.three_at-v.ensures)
 
 pub loop-k-init : goal.loop-k-init
-loop-k-init c = (omega arith, λ j q. let z : j ≡ 0 = omega arith in rw z (source-present (branches_of c.args.branches.now) (threes_of c.args.voltages.now)))
+loop-k-init c = λ j q. let z : j ≡ 0 = omega arith in rw z (source-present (branches_of c.args.branches.now) (threes_of c.args.voltages.now))
 
 pub returns-then-not-absent_zero : goal.returns-then-not-absent_zero
 returns-then-not-absent_zero c =
     let l = c.loop-k in
     let a = c.args in
-    sym (first-node (absent_differs (branches_of a.branches.now) (threes_of a.voltages.now)) a.rows l.k (omega arith) l.invariant.1 (tested (goal.at.returns-then-not-absent_zero c).After-absent_zero ∙ ap not c.if-not-absent_zero.true))
+    sym (first-node (absent_differs (branches_of a.branches.now) (threes_of a.voltages.now)) a.rows l.k (omega arith) l.invariant (tested (goal.at.returns-then-not-absent_zero c).After-absent_zero ∙ ap not c.if-not-absent_zero.true))
 
 pub loop-k-preserved : goal.loop-k-preserved
 loop-k-preserved c =
     let l = c.loop-k in
-    (omega arith, below_more _ _ l.invariant.1 (tested (goal.at.loop-k-preserved c).After-absent_zero ∙ ap not c.if-not-absent_zero.false))
+    below_more _ _ l.invariant (tested (goal.at.loop-k-preserved c).After-absent_zero ∙ ap not c.if-not-absent_zero.false)
 
 pub returns : goal.returns
 returns c =
     let a = c.args in
-    sym (none-nodes (absent_differs (branches_of a.branches.now) (threes_of a.voltages.now)) 1 a.rows (λ j q. c.loop-k.invariant.1 j (omega arith)))
+    sym (none-nodes (absent_differs (branches_of a.branches.now) (threes_of a.voltages.now)) 1 a.rows (λ j q. c.loop-k.invariant j (omega arith)))

@@ -1,13 +1,10 @@
 -- `compare::first_absent` meets its contract: no node passed has a voltage on an absent phase. Assumes nothing.
 use mathlib.Core.Bool.{false}
 use mathlib.Core.Path.{◌≡◌}
-use Prim.Native.Nat.{◌+◌, ◌-◌, ◌<◌, ℕ}
+use Prim.Native.Nat.{◌<◌, ℕ}
 use Rattle.arrays.specs.Arrays.{branches_of, threes_of}
 use Rattle.compare.specs.Compare.{absent_differs}
 use Rattle.compare.proofs.first_absent.Given as goal
 
 abbrev pub invariant-loop-k : goal.invariant-loop-k
-invariant-loop-k l = (0 < l.k) × ((j : ℕ) → j < l.k → absent_differs (branches_of l.branches) (threes_of l.voltages) j ≡ false)
-
-abbrev pub decreases-loop-k : goal.decreases-loop-k
-decreases-loop-k l = l.rows + 1 - l.k
+invariant-loop-k l = (j : ℕ) → j < l.k → absent_differs (branches_of l.branches) (threes_of l.voltages) j ≡ false

@@ -1,13 +1,10 @@
 -- `compare::first_branch_name` meets its contract: no row passed has other names. Assumes nothing.
 use mathlib.Core.Bool.{false}
 use mathlib.Core.Path.{◌≡◌}
-use Prim.Native.Nat.{◌+◌, ◌-◌, ◌<◌, ℕ}
+use Prim.Native.Nat.{◌<◌, ℕ}
 use Rattle.arrays.specs.Arrays.{branches_of}
 use Rattle.compare.specs.Compare.{names_differ}
 use Rattle.compare.proofs.first_branch_name.Given as goal
 
 abbrev pub invariant-loop-k : goal.invariant-loop-k
-invariant-loop-k l = (0 < l.k) × ((j : ℕ) → j < l.k → 0 < j → names_differ l.nodes (branches_of l.branches) l.froms l.tos j ≡ false)
-
-abbrev pub decreases-loop-k : goal.decreases-loop-k
-decreases-loop-k l = l.rows + 1 - l.k
+invariant-loop-k l = (j : ℕ) → j < l.k → 0 < j → names_differ l.nodes (branches_of l.branches) l.froms l.tos j ≡ false

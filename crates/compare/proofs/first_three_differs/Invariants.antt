@@ -1,13 +1,10 @@
 -- `compare::first_three_differs` meets its contract: no row passed has another current. Assumes nothing.
 use mathlib.Core.Bool.{false}
 use mathlib.Core.Path.{◌≡◌}
-use Prim.Native.Nat.{◌+◌, ◌-◌, ◌<◌, ℕ}
+use Prim.Native.Nat.{◌<◌, ℕ}
 use Rattle.arrays.specs.Arrays.{threes_of}
 use Rattle.compare.specs.Compare.{three_differs}
 use Rattle.compare.proofs.first_three_differs.Given as goal
 
 abbrev pub invariant-loop-k : goal.invariant-loop-k
-invariant-loop-k l = (0 < l.k) × ((j : ℕ) → j < l.k → 0 < j → three_differs (threes_of l.reported) (threes_of l.worked) j ≡ false)
-
-abbrev pub decreases-loop-k : goal.decreases-loop-k
-decreases-loop-k l = l.rows + 1 - l.k
+invariant-loop-k l = (j : ℕ) → j < l.k → 0 < j → three_differs (threes_of l.reported) (threes_of l.worked) j ≡ false

@@ -1,5 +1,8 @@
 -- `compare::losses_same` meets its contract: each row passed has its loss. Assumes nothing.
-use mathlib.Core.Path.{◌∙◌, ◌≡◌, ap₂, sym}
+use mathlib.Core.Bool.{not}
+use mathlib.Core.Path.{◌∙◌, ◌≡◌, ap, ap₂, sym}
+use borrow.Author.Tests.{not-false, not-true}
+use Rattle.integers.specs.Equal.{equal-pair}
 use Prim.Native.Nat.{◌+◌}
 use native.Mathlib.Omega.{arith}
 use borrow.Author.Count.{below_more}
@@ -9,28 +12,22 @@ use Rattle.integers.specs.ListLaws.{true-count}
 use Rattle.compare.specs.Compare.{losses_same}
 use Rattle.compare.specs.Scans.{not-all}
 use Rattle.compare.proofs.losses_same.Goals as goal
-use Rattle.compare.proofs.losses_same.Goals.{After-same_pair}
+use Rattle.compare.proofs.losses_same.Goals.{After-ne}
 
--- the answer is whether the losses of row k are the same
-alike : (c : After-same_pair) → let a = c.args in
-    c.same_pair.result ≡ losses_same (pairs_of a.losses.now) (pairs_of a.worked.now) c.loop-k.k
-alike c = c.same_pair.ensures ∙ ap₂ same c.pair_at-x.ensures c.pair_at-y.ensures
+-- the answer is whether the losses of row k differ
+tested : (c : After-ne) → let a = c.args in c.ne.result ≡ not (losses_same (pairs_of a.losses.now) (pairs_of a.worked.now) c.loop-k.k)
+tested c = c.ne.ensures ∙ ap not (equal-pair _ _ ∙ ap₂ same c.pair_at-loss.ensures c.pair_at-due.ensures)
 
-pub loop-k-init : goal.loop-k-init
-loop-k-init c = (omega arith, λ j q z. absurd (omega arith))
-
-pub returns-then-not-same_pair : goal.returns-then-not-same_pair
-returns-then-not-same_pair c =
+pub returns-then-ne : goal.returns-then-ne
+returns-then-ne c =
     let l = c.loop-k in
     let a = c.args in
-    sym (not-all (losses_same (pairs_of a.losses.now) (pairs_of a.worked.now)) a.rows l.k (omega arith) (omega arith) (sym (alike (goal.at.returns-then-not-same_pair c).After-same_pair) ∙ c.if-not-same_pair.true))
+    sym (not-all (losses_same (pairs_of a.losses.now) (pairs_of a.worked.now)) a.rows l.k (omega arith) (omega arith) (not-true _ (sym (tested (goal.at.returns-then-ne c).After-ne) ∙ c.if-ne.true)))
 
 pub loop-k-preserved : goal.loop-k-preserved
-loop-k-preserved c =
-    let l = c.loop-k in
-    (omega arith, below_more _ _ l.invariant.1 (λ z. sym (alike (goal.at.loop-k-preserved c).After-same_pair) ∙ c.if-not-same_pair.false))
+loop-k-preserved c = below_more _ _ c.loop-k.invariant (λ z. not-false _ (sym (tested (goal.at.loop-k-preserved c).After-ne) ∙ c.if-ne.false))
 
 pub returns : goal.returns
 returns c =
     let a = c.args in
-    sym (true-count (losses_same (pairs_of a.losses.now) (pairs_of a.worked.now)) 1 a.rows (λ j q. c.loop-k.invariant.1 (1 + j) (omega arith) (omega arith)))
+    sym (true-count (losses_same (pairs_of a.losses.now) (pairs_of a.worked.now)) 1 a.rows (λ j q. c.loop-k.invariant (1 + j) (omega arith) (omega arith)))

@@ -1,13 +1,10 @@
 -- `compare::losses_same` meets its contract: each row passed has its loss. Assumes nothing.
 use mathlib.Core.Bool.{true}
 use mathlib.Core.Path.{◌≡◌}
-use Prim.Native.Nat.{◌+◌, ◌-◌, ◌<◌, ℕ}
+use Prim.Native.Nat.{◌<◌, ℕ}
 use Rattle.arrays.specs.Arrays.{pairs_of}
 use Rattle.compare.specs.Compare.{losses_same}
 use Rattle.compare.proofs.losses_same.Given as goal
 
 abbrev pub invariant-loop-k : goal.invariant-loop-k
-invariant-loop-k l = (0 < l.k) × ((j : ℕ) → j < l.k → 0 < j → losses_same (pairs_of l.losses) (pairs_of l.worked) j ≡ true)
-
-abbrev pub decreases-loop-k : goal.decreases-loop-k
-decreases-loop-k l = l.rows + 1 - l.k
+invariant-loop-k l = (j : ℕ) → j < l.k → 0 < j → losses_same (pairs_of l.losses) (pairs_of l.worked) j ≡ true

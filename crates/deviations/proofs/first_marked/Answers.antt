@@ -10,8 +10,8 @@ use Rattle.deviations.proofs.first_marked.Goals as goal
 
 pub returns-then-not-off-from : goal.returns-then-not-off-from
 returns-then-not-off-from c =
-    sym (first-node (bad (branches_of c.args.branches.now) c.args.off) c.args.rows c.loop-k.k (omega arith) c.loop-k.invariant.1
+    sym (first-node (bad (branches_of c.args.branches.now) c.args.off) c.args.rows c.loop-k.k (omega arith) c.loop-k.invariant
     (ap₂ ◌&&◌ c.if-off-k.true (ap (λ (m : ℕ). not (get_or c.args.off m false)) (sym c.from_at-from.ensures) ∙ ap not c.if-not-off-from.true)))
 
 pub returns : goal.returns
-returns c = sym (none-nodes (bad (branches_of c.args.branches.now) c.args.off) 1 c.args.rows (λ j q. c.loop-k.invariant.1 j (omega arith)))
+returns c = sym (none-nodes (bad (branches_of c.args.branches.now) c.args.off) 1 c.args.rows (λ j q. c.loop-k.invariant j (omega arith)))

@@ -7,7 +7,7 @@ use Rattle.equations.specs.Limits.{DeviceOk, far_within}
 use Rattle.equations.specs.Sizes.{Within3, within3-more}
 use Rattle.feeder.specs.Feeder.{abc}
 use Rattle.feeder.specs.declared.Branch.{Branch}
-use Rattle.feeder.specs.declared.Three.{Three}
+use Rattle.feeder.specs.Phased.{Three}
 use Rattle.integers.specs.Lists.{all}
 use Rattle.integers.specs.Pairs.{close}
 use Rattle.passes.specs.Along.{Turn, turn}
@@ -19,13 +19,10 @@ use Rattle.deviations.proofs.mark_off.Goals.{After-branch_at-b, After-three_at-c
 
 pub loop-place-init : goal.loop-place-init
 loop-place-init c =
-    let d = c.requires.comparable in (
-      omega arith,
-      omega arith,
-      rw c.put_three.ensures
-          (marked-first (branches_of c.args.branches.now) c.args.order.now c.args.source (threes_of c.args.i.now) (threes_of c.args.reported.now) c.args.tol
-          (rw d.first at (d.each 0))),
-    )
+    let d = c.requires.comparable in
+    rw c.put_three.ensures
+    (marked-first (branches_of c.args.branches.now) c.args.order.now c.args.source (threes_of c.args.i.now) (threes_of c.args.reported.now) c.args.tol
+    (rw d.first at (d.each 0)))
 
 here : (c : In-loop-place) → Turn c.requires.ready c.loop-place.place
 here c = turn c.requires.ready c.loop-place.place (omega arith) (omega arith)
@@ -36,7 +33,7 @@ far c =
     let n = here (goal.at.After-three_at-current c).In-loop-place in
     let m = get_or c.args.order.now c.loop-place.place 0 in (
       rw c.branch_at-b.ensures (c.requires.ready.fine m n.below n.known),
-      (rw c.three_at-u.ensures (c.loop-place.invariant.2.each c.branch_at-b.result.from c.if-off-from.false), rw c.three_at-current.ensures (c.requires.by_index m n.below n.known)),
+      (rw c.three_at-u.ensures (c.loop-place.invariant.each c.branch_at-b.result.from c.if-off-from.false), rw c.three_at-current.ensures (c.requires.by_index m n.below n.known)),
     )
 
 pub close-near-requires-clause-within3 : goal.close-near-requires-clause-within3
@@ -47,26 +44,23 @@ close-near-requires-clause-within3 c =
 pub loop-place-preserved : goal.loop-place-preserved
 loop-place-preserved c =
     let m = get_or c.args.order.now c.loop-place.place 0 in
-    let p : c.branch_at-b.result.from ≡ parent_in (branches_of c.args.branches.now) m = ap (λ (b : Branch). b.from) c.branch_at-b.ensures in (
-      omega arith,
-      omega (arith, c.loop-place-test.true),
-      rw add-one
-          (elim c.if-off-from.branch [
-            | then-off-from w ↦
-                rw (w.worked-is, w.off-is)
-                (marked-below c.requires.ready c.args.source (threes_of c.args.i.now) (threes_of c.args.reported.now) c.args.tol (threes_of c.loop-place.worked) c.loop-place.off c.loop-place.place (omega arith) (omega arith) c.loop-place.invariant.2
-                (sym (ap (λ (m : ℕ). get_or c.loop-place.off m false) p) ∙ w.if-off-from.true))
-            | else-off-from w ↦
-                rw (w.worked-is, w.off-is, w.put_three-else-off-from.ensures)
-                (marked-worked c.requires.ready c.args.source (threes_of c.args.i.now) (threes_of c.args.reported.now) c.args.tol (threes_of c.loop-place.worked) c.loop-place.off c.loop-place.place (omega arith) (omega arith) c.loop-place.invariant.2
-                c.requires.comparable (sym (ap (λ (m : ℕ). get_or c.loop-place.off m false) p) ∙ w.if-off-from.false) _ _
-                (below-is (branches_of c.args.branches.now) (threes_of c.args.i.now) (threes_of c.loop-place.worked) m _ _ _ _ c.branch_at-b.ensures w.three_at-u.ensures w.three_at-current.ensures w.far_voltage-y.ensures)
-                (ap not (w.close-near.ensures ∙ ap (λ (x : Three). all (λ p. close c.args.tol (at w.far_voltage-y.result p) (at x p)) abc) w.three_at-t.ensures)))
-          ]),
-    )
+    let p : c.branch_at-b.result.from ≡ parent_in (branches_of c.args.branches.now) m = ap (λ (b : Branch). b.from) c.branch_at-b.ensures in
+    rw add-one
+    (elim c.if-off-from.branch [
+      | then-off-from w ↦
+          rw (w.worked-is, w.off-is)
+          (marked-below c.requires.ready c.args.source (threes_of c.args.i.now) (threes_of c.args.reported.now) c.args.tol (threes_of c.loop-place.worked) c.loop-place.off c.loop-place.place (omega arith) (omega arith) c.loop-place.invariant
+          (sym (ap (λ (m : ℕ). get_or c.loop-place.off m false) p) ∙ w.if-off-from.true))
+      | else-off-from w ↦
+          rw (w.worked-is, w.off-is, w.put_three-else-off-from.ensures)
+          (marked-worked c.requires.ready c.args.source (threes_of c.args.i.now) (threes_of c.args.reported.now) c.args.tol (threes_of c.loop-place.worked) c.loop-place.off c.loop-place.place (omega arith) (omega arith) c.loop-place.invariant
+          c.requires.comparable (sym (ap (λ (m : ℕ). get_or c.loop-place.off m false) p) ∙ w.if-off-from.false) _ _
+          (below-is (branches_of c.args.branches.now) (threes_of c.args.i.now) (threes_of c.loop-place.worked) m _ _ _ _ c.branch_at-b.ensures w.three_at-u.ensures w.three_at-current.ensures w.far_voltage-y.ensures)
+          (ap not (w.close-near.ensures ∙ ap (λ (x : Three). all (λ p. close c.args.tol (at w.far_voltage-y.result p) (at x p)) abc) w.three_at-t.ensures)))
+    ])
 
 pub returns-clause-value : goal.returns-clause-value
 returns-clause-value c = λ f w s.
     let k : c.loop-place.place ≡ c.args.rows + 1 = omega arith in
     marks-are c.requires.ready c.args.source (threes_of c.args.i.now) (threes_of c.args.reported.now) c.args.tol f w s c.requires.comparable.first (threes_of c.loop-place.worked) c.loop-place.off
-    (rw k at c.loop-place.invariant.2)
+    (rw k at c.loop-place.invariant)

@@ -3,7 +3,7 @@ use mathlib.Core.Path.{◌∙◌, ap}
 use Rattle.equations.specs.Equations.{power}
 use Rattle.equations.specs.Limits.{drop-within}
 use Rattle.equations.specs.Sizes.{within3-more}
-use Rattle.feeder.specs.declared.Three.{Three}
+use Rattle.feeder.specs.Phased.{Three}
 use Rattle.devices.proofs.loss.Goals as goal
 
 pub power-requires : goal.power-requires

@@ -1,20 +1,15 @@
 -- `draw` meets its contract. After l rows the loop holds the sums over the first l. Assumes nothing.
-use mathlib.Core.List.{List}
-use mathlib.Core.Path.{◌∙◌, ◌≡◌, ap}
-use Prim.Native.Nat.{◌<◌}
-use native.Mathlib.Omega.{arith}
-use lib.ListN.{get_or, length, set}
+use Rattle.std.specs.Prelude.{Bool, List, ◌<◌, ◌≡◌, ◌≤◌, get_or, length, set, false, true, Ok, Err}
+use Rattle.std.proofs.Common.{◌∙◌, ap, arith, sym}
 use Rattle.arrays.specs.Arrays.{loads_of, threes_of}
-use Rattle.draws.proofs.Summing.{all-rows, first_rows, row_within, row_drawn, rows_next, spread_of, summed-draws, summed-next, summed-none, summed-small}
-use Rattle.draws.specs.Draws.{SmallDraws, row_of}
-use Rattle.draws.specs.declared.Draws.{Draws}
+use Rattle.draws.proofs.Summing.{SmallSums, Summed, all-rows, first_rows, lacking-draws, row_drawn, rows_next, summed-beyond, summed-draws, summed-none, summed-over, summed-small, summed-taken, taken-within}
 use Rattle.equations.specs.Equations.{mix, plus3, voltage_on}
-use Rattle.equations.specs.Limits.{LoadOk, drawn-within}
+use Rattle.equations.specs.Limits.{drawn-within}
 use Rattle.equations.specs.Sizes.{Within3, spread-within, within3-more}
-use Rattle.feeder.specs.Feeder.{phase_signs}
-use Rattle.feeder.specs.Network.{no_load}
+use Rattle.feeder.specs.Feeder.{Feeder, phase_signs}
+use Rattle.feeder.specs.Network.{load_array, no_load}
 use Rattle.feeder.specs.declared.Load.{Load}
-use Rattle.feeder.specs.declared.Three.{Three}
+use Rattle.feeder.specs.Phased.{Three}
 use Rattle.integers.specs.ListLaws.{length-tab}
 use Rattle.integers.specs.Lists.{tab}
 use Rattle.integers.specs.PairLaws.{Within, within_more}
@@ -22,7 +17,7 @@ use Rattle.integers.specs.Pairs.{◌+c◌, ◌·*◌}
 use Rattle.integers.specs.declared.Pair.{Pair}
 use Rattle.loads.specs.Loads.{drawn_by}
 use Rattle.draws.proofs.draw.Goals as goal
-use Rattle.draws.proofs.draw.Goals.{After-load_at-load, After-row_at-row, After-three_at-u, At-loop-l, Start}
+use Rattle.draws.proofs.draw.Goals.{After-load_at-load, After-load_current, After-three_at-u, At-loop-l, In-Ok, Start, in-Ok, in-Err-Beyond}
 
 -- the rows and the voltages
 abbrev rows : Start → List Load
@@ -34,16 +29,13 @@ volts s = threes_of s.args.v.now
 abbrev first : At-loop-l → Start
 first a = (goal.at.At-loop-l a).Start
 
--- what the loop holds, and how large it is
-abbrev held : At-loop-l → Draws
-held a = record { state = a.loop-l.state; drawn = a.loop-l.drawn }
-
-small : (a : At-loop-l) → SmallDraws (held a) (threes_of a.loop-l.own)
+-- how large the sums are
+small : (a : At-loop-l) → SmallSums a.loop-l.drawn (threes_of a.loop-l.own)
 small a =
     let s = first a in
     let n : length (first_rows (rows s) a.loop-l.l) ≡ a.loop-l.l = length-tab (λ k. get_or (rows s) k no_load) 0 a.loop-l.l in
     let few = s.requires.loads_ok.few in
-    summed-small (volts s) (first_rows (rows s) a.loop-l.l) (held a) (threes_of a.loop-l.own) (omega arith) s.requires.loads_ok.voltages a.loop-l.invariant.1
+    summed-small (volts s) (first_rows (rows s) a.loop-l.l) a.loop-l.beyond a.loop-l.drawn (threes_of a.loop-l.own) (omega arith) s.requires.loads_ok.voltages a.loop-l.invariant
 
 -- the row of this turn, and what it draws
 abbrev load : After-load_at-load → Load
@@ -52,85 +44,105 @@ load t = t.load_at-load.result
 place : (t : After-load_at-load) → (load t).node < 201
 place t = rw t.load_at-load.ensures ((first (goal.at.After-load_at-load t).At-loop-l).requires.loads_ok.nodes t.loop-l.l (omega arith))
 
-limits : (t : After-load_at-load) → LoadOk (load t)
-limits t = rw t.load_at-load.ensures ((first (goal.at.After-load_at-load t).At-loop-l).requires.loads_ok.limits t.loop-l.l (omega arith))
+abbrev turn : After-load_current → After-load_at-load
+turn r = (goal.at.After-load_current r).After-load_at-load
 
-abbrev turn : After-row_at-row → After-load_at-load
-turn r = (goal.at.After-row_at-row r).After-load_at-load
-
-abbrev place-in : After-load_at-load → At-loop-l
-place-in t = (goal.at.After-load_at-load t).At-loop-l
-
-abbrev start : After-row_at-row → Start
-start r = first (goal.at.After-row_at-row r).At-loop-l
+abbrev start : After-load_current → Start
+start r = first (goal.at.After-load_current r).At-loop-l
 
 -- the voltages at its node
 at-node : (u : After-three_at-u) → Within3 2000000 u.three_at-u.result
 at-node u = rw u.three_at-u.ensures ((first (goal.at.After-three_at-u u).At-loop-l).requires.loads_ok.voltages (load (goal.at.After-three_at-u u).After-load_at-load).node)
 
-row_is : (r : After-row_at-row) → r.row_at-row.result ≡ row_drawn (volts (start r)) (load (turn r))
+row_is : (r : After-load_current) → r.load_current.result ≡ row_drawn (volts (start r)) (load (turn r))
 unfolding voltage_on
-row_is r = let l = load (turn r) in r.row_at-row.ensures ∙ ap (λ (x : Three). row_of (drawn_by l (mix (phase_signs l.phase) x))) r.three_at-u.ensures
+row_is r = let l = load (turn r) in r.load_current.ensures ∙ ap (λ (x : Three). drawn_by l (mix (phase_signs l.phase) x)) r.three_at-u.ensures
 
-current-small : (r : After-row_at-row) → Within 2000000 r.row_at-row.result.current
-current-small r = rw (row_is r) (row_within (volts (start r)) (load (turn r)))
+drawn : (r : In-Ok) → row_drawn (volts (start (goal.at.In-Ok r).After-load_current)) (load (turn (goal.at.In-Ok r).After-load_current)) ≡ Ok r.in-Ok.i
+drawn r = sym (row_is (goal.at.In-Ok r).After-load_current) ∙ r.in-Ok.is
+
+current-small : (r : In-Ok) → Within 2000000 r.in-Ok.i
+current-small r = taken-within (volts (start (goal.at.In-Ok r).After-load_current)) (load (turn (goal.at.In-Ok r).After-load_current)) r.in-Ok.i (drawn r)
 
 pub loop-l-init : goal.loop-l-init
 unfolding tab
-loop-l-init c = (omega arith, rw c.requires.own_value (summed-none (volts c)))
+loop-l-init c = rw c.requires.own_value (summed-none (volts c))
 
 pub three_at-u-requires : goal.three_at-u-requires
 three_at-u-requires c = let h = place c in omega arith
 
-pub row_at-row-requires : goal.row_at-row-requires
-row_at-row-requires c = record { load_ok = limits (goal.at.row_at-row-requires c).After-load_at-load; within3 = at-node c }
-
 pub spread-more-requires : goal.spread-more-requires
-spread-more-requires c = current-small (goal.at.spread-more-requires c).After-row_at-row
+spread-more-requires c = current-small c
 
-pub three_at-held-requires : goal.three_at-held-requires
-three_at-held-requires c = let h = place (turn (goal.at.three_at-held-requires c).After-row_at-row) in omega arith
+pub plus-sum-requires-clause-within3 : goal.plus-sum-requires-clause-within3
+plus-sum-requires-clause-within3 c =
+    let w = goal.at.plus-sum-requires-clause-within3 c in
+    rw c.three_at-held.ensures (within3-more ((small w.At-loop-l).own-small (load w.After-load_at-load).node) tt)
 
-pub plus-sum-requires : goal.plus-sum-requires
-plus-sum-requires c =
-    let t = turn (goal.at.plus-sum-requires c).After-row_at-row in
-    let w : Within3 2000000 (spread_of (load t) c.row_at-row.result.current) = spread-within (load t).phase (current-small (goal.at.plus-sum-requires c).After-row_at-row) in
-    record { within3 = rw c.three_at-held.ensures (within3-more ((small (place-in t)).own-small (load t).node) tt); within3_2 = rw c.spread-more.ensures (within3-more w tt) }
+pub plus-sum-requires-clause-within3_2 : goal.plus-sum-requires-clause-within3_2
+plus-sum-requires-clause-within3_2 c =
+    let w = goal.at.plus-sum-requires-clause-within3_2 c in
+    rw c.spread-more.ensures (within3-more (spread-within (load w.After-load_at-load).phase (current-small w.In-Ok)) tt)
 
-pub put_three-requires : goal.put_three-requires
-put_three-requires c = let h = place (turn (goal.at.put_three-requires c).After-row_at-row) in omega arith
+pub load_power-power-requires-clause-within : goal.load_power-power-requires-clause-within
+load_power-power-requires-clause-within c = current-small (goal.at.load_power-power-requires-clause-within c).In-Ok
 
-pub load_power-power-requires : goal.load_power-power-requires
-load_power-power-requires c =
-    record { within3 = at-node (goal.at.load_power-power-requires c).After-three_at-u; within = current-small (goal.at.load_power-power-requires c).After-row_at-row }
+pub add-drawn-requires-clause-within : goal.add-drawn-requires-clause-within
+add-drawn-requires-clause-within c = within_more (small (goal.at.add-drawn-requires-clause-within c).At-loop-l).drawn tt
 
-pub add-drawn-requires : goal.add-drawn-requires
-add-drawn-requires c =
-    let t = turn (goal.at.add-drawn-requires c).After-row_at-row in
-    let w = drawn-within (load t).phase (at-node (goal.at.add-drawn-requires c).After-three_at-u) (current-small (goal.at.add-drawn-requires c).After-row_at-row) in
-    record { within = within_more (small (place-in t)).drawn tt; within_2 = rw c.load_power-power.ensures (within_more w tt) }
+pub add-drawn-requires-clause-within_2 : goal.add-drawn-requires-clause-within_2
+add-drawn-requires-clause-within_2 c =
+    let w = goal.at.add-drawn-requires-clause-within_2 c in
+    rw c.load_power-power.ensures (within_more (drawn-within (load w.After-load_at-load).phase (at-node w.After-three_at-u) (current-small w.In-Ok)) tt)
+
+pub returns-in-Err-ZeroVoltage-clause-value : goal.returns-in-Err-ZeroVoltage-clause-value
+returns-in-Err-ZeroVoltage-clause-value c = λ f p q.
+    let r = (goal.at.returns-in-Err-ZeroVoltage-clause-value c).After-load_current in
+    let s = start r in
+    let few = s.requires.loads_ok.few in
+    lacking-draws f (volts s) (threes_of c.loop-l.own) (rows s) c.loop-l.l p (omega arith) (omega arith)
+    (rw c.load_at-load.ensures at (sym (row_is r) ∙ c.in-Err-ZeroVoltage.is ∙ ap Err c.in-Err-ZeroVoltage.field-0-is))
+
+pub returns-in-Err-ZeroVoltage-clause-size : goal.returns-in-Err-ZeroVoltage-clause-size
+returns-in-Err-ZeroVoltage-clause-size c = record { own-small = (small (goal.at.returns-in-Err-ZeroVoltage-clause-size c).At-loop-l).own-small; drawn = tt }
 
 pub loop-l-preserved : goal.loop-l-preserved
 unfolding voltage_on
 loop-l-preserved c =
-    let t = turn (goal.at.loop-l-preserved c).After-row_at-row in
-    let a = place-in t in
-    let x = load t in
-    let e = first a in
-    let b = threes_of a.loop-l.own in
-    rw (rows_next (rows e) a.loop-l.l, ← t.load_at-load.ensures) (
-      omega (arith, c.loop-l-test.true),
-      summed-next (volts e) (first_rows (rows e) a.loop-l.l) x c.row_at-row.result (held a)
-          (record { state = c.worse-state.result; drawn = c.add-drawn.result }) b (threes_of c.put_three.new.threes)
-          (place t) (row_is (goal.at.loop-l-preserved c).After-row_at-row) a.loop-l.invariant.1
-          c.worse-state.ensures
-          (c.put_three.ensures ∙ ap (set b x.node) (c.plus-sum.ensures ∙ (λ i. plus3 (c.three_at-held.ensures i) (c.spread-more.ensures i))))
-          (c.add-drawn.ensures ∙ ap (λ (y : Pair). a.loop-l.drawn +c y) (c.load_power-power.ensures ∙ ap (λ (y : Three). mix (phase_signs x.phase) y ·* c.row_at-row.result.current) c.three_at-u.ensures)),
-    )
-
-pub returns : goal.returns
-returns c =
-    let s = first (goal.at.returns c).At-loop-l in
-    let z : c.loop-l.l ≡ s.args.count = omega arith in
+    let r = (goal.at.loop-l-preserved c).After-load_current in
+    let s = start r in
+    let t = turn r in
+    let l = load t in
     let b = threes_of c.loop-l.own in
-    record { value = (λ f p q. summed-draws f (volts s) (held (goal.at.returns c).At-loop-l) b (rw (all-rows f (rows s) s.args.count c.loop-l.l z s.requires.loads_ok.few p q) at c.loop-l.invariant.1)); size = small (goal.at.returns c).At-loop-l }
+    rw (rows_next (rows s) c.loop-l.l, ← c.load_at-load.ensures) (elim c.match-load_current.branch [
+      | in-Ok w ↦ rw (w.own-is, w.drawn-is, w.beyond-is)
+          (summed-taken (volts s) (first_rows (rows s) c.loop-l.l) l w.in-Ok.i c.loop-l.beyond c.loop-l.drawn w.add-drawn.result b (threes_of w.put_three.new.threes) (place t)
+          (sym (row_is r) ∙ w.in-Ok.is) c.loop-l.invariant
+          (w.put_three.ensures ∙ ap (set b l.node) (w.plus-sum.ensures ∙ (λ i. plus3 (w.three_at-held.ensures i) (w.spread-more.ensures i))))
+          (w.add-drawn.ensures ∙ ap (λ (y : Pair). c.loop-l.drawn +c y) (w.load_power-power.ensures ∙ ap (λ (y : Three). mix (phase_signs l.phase) y ·* w.in-Ok.i) c.three_at-u.ensures)))
+      | in-Err-Beyond w ↦ rw (w.own-is, w.drawn-is, w.beyond-is)
+          (summed-beyond (volts s) (first_rows (rows s) c.loop-l.l) l c.loop-l.beyond c.loop-l.drawn b (sym (row_is r) ∙ w.in-Err-Beyond.is ∙ ap Err w.in-Err-Beyond.field-0-is) c.loop-l.invariant)
+    ])
+
+-- after the last row
+ended : (a : At-loop-l) (over : Bool) → a.loop-l.beyond ≡ over → (first a).args.count ≤ a.loop-l.l → a.loop-l.l ≤ (first a).args.count → (f : Feeder) → rows (first a) ≡ load_array f → (first a).args.count ≡ length f.loads
+    → Summed f.loads (volts (first a)) over a.loop-l.drawn (threes_of a.loop-l.own)
+ended a over e low high f p q =
+    let s = first a in
+    rw (e, all-rows f (rows s) s.args.count a.loop-l.l (omega arith) s.requires.loads_ok.few p q) at a.loop-l.invariant
+
+pub returns-then-beyond-clause-value : goal.returns-then-beyond-clause-value
+returns-then-beyond-clause-value c = λ f p q.
+    let a = (goal.at.returns-then-beyond-clause-value c).At-loop-l in
+    summed-over f (volts (first a)) c.loop-l.drawn (threes_of c.loop-l.own) (ended a true c.if-beyond.true c.loop-l-test.false c.loop-l.auto.l-end f p q)
+
+pub returns-then-beyond-clause-size : goal.returns-then-beyond-clause-size
+returns-then-beyond-clause-size c = record { own-small = (small (goal.at.returns-then-beyond-clause-size c).At-loop-l).own-small; drawn = tt }
+
+pub returns-else-beyond-clause-value : goal.returns-else-beyond-clause-value
+returns-else-beyond-clause-value c = λ f p q.
+    let a = (goal.at.returns-else-beyond-clause-value c).At-loop-l in
+    summed-draws f (volts (first a)) c.loop-l.drawn (threes_of c.loop-l.own) (ended a false c.if-beyond.false c.loop-l-test.false c.loop-l.auto.l-end f p q)
+
+pub returns-else-beyond-clause-size : goal.returns-else-beyond-clause-size
+returns-else-beyond-clause-size c = let h = small (goal.at.returns-else-beyond-clause-size c).At-loop-l in record { own-small = h.own-small; drawn = h.drawn }

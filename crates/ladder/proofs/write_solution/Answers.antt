@@ -39,7 +39,7 @@ returns-then-out-need c = λ f x held e run.
 
 pub returns : goal.returns
 returns c = λ f x held e run.
-    let r = c.put_report-len.ensures.report f x.voltages x.currents (shows (goal.at.returns c).After-power-source f x held run) in
+    let r = c.put_report-length.ensures.report f x.voltages x.currents (shows (goal.at.returns c).After-power-source f x held run) in
     with-room f x c.args.out.now c.report_width-need.result _ _ _ (text-is (goal.at.returns c).After-report_width-need f x held e run) (le-ltb _ _ c.if-out-need.false) e
     (r.0 ∙ ap (λ (k : ℕ). length (report_text f x.voltages x.currents k)) e)
     (r.1 ∙ ap (λ (k : ℕ). report_text f x.voltages x.currents k ++ drop (length (report_text f x.voltages x.currents k)) c.args.out.now) e)

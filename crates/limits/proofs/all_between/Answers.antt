@@ -18,8 +18,8 @@ tested : (c : After-between)
     → let s = (head c).before.args in c.between.result ≡ between (read s.lo) (read s.hi) (nth (drop 5 s.n.now) (head c).loop-j.j)
 tested c =
     let s = (head c).before.args in
-    let z : read c.p_at-z.result ≡ c.p_at-z.result = search rules in
-    c.between.ensures ∙ ap (between (read s.lo) (read s.hi)) (z ∙ c.p_at-z.ensures)
+    let z : read c.p_at.result ≡ c.p_at.result = search rules in
+    c.between.ensures ∙ ap (between (read s.lo) (read s.hi)) (z ∙ c.p_at.ensures)
 
 -- lo and hi are read as they are given
 given : (c : Start) → let s = c.args in

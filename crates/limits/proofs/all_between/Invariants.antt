@@ -1,5 +1,4 @@
 -- `limits::all_between` meets its contract: the columns are tested one after the other. Assumes nothing.
-use Prim.Native.Nat.{◌+◌, ◌-◌}
 use lib.ListN.{drop}
 use Rattle.feeder.specs.Feeder.{between}
 use Rattle.text.specs.Lines.{nth}
@@ -8,6 +7,3 @@ use Rattle.limits.proofs.all_between.Given as goal
 
 abbrev pub invariant-loop-j : goal.invariant-loop-j
 invariant-loop-j l = Held (λ i. between (l.lo) (l.hi) (nth (drop 5 l.n) i)) l.first l.last l.j
-
-abbrev pub decreases-loop-j : goal.decreases-loop-j
-decreases-loop-j l = (l.last + 1) - l.j

@@ -16,17 +16,17 @@ first c =
     let n = c.args.n.now in
     let e : read (nth n 4) ≡ nth n 4 = search rules in
     let p : read (nth n 2) ≡ nth n 2 = search rules in
-    let t = c.phase_of-terminals.ensures ∙ ap phase_of p in
+    let t = c.phase_of.ensures ∙ ap phase_of p in
     let m : read c.vn_most-most.result ≡ vn_most (phase_of (nth n 2)) = to_z-of_z c.vn_most-most.ensures.fits ∙ c.vn_most-most.ensures.value ∙ ap vn_most t in
     c.between.ensures ∙ ap₂ (between (pos 1)) m e
 
-pub returns-then-not-between : goal.returns-then-not-between
-returns-then-not-between c = simp (sym (first (goal.at.returns-then-not-between c).After-between) ∙ c.if-not-between.true)
+pub returns-else-between : goal.returns-else-between
+returns-else-between c = c.if-between.false ∙ simp (sym (first (goal.at.returns-else-between c).After-between) ∙ c.if-between.false)
 
-pub returns : goal.returns
+pub returns-then-between : goal.returns-then-between
 unfolding within
-returns c =
+returns-then-between c =
     let n = c.args.n.now in
     let d : read (nth n 5) ≡ nth n 5 = search rules in
     let e : read (nth n 6) ≡ nth n 6 = search rules in
-    simp (sym (first (goal.at.returns c).After-between) ∙ c.if-not-between.false) (c.within.ensures ∙ simp (d, e))
+    simp (sym (first (goal.at.returns-then-between c).After-between) ∙ c.if-between.true) (c.within.ensures ∙ simp (d, e))

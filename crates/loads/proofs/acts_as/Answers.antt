@@ -1,5 +1,5 @@
 -- `acts_as` meets its contract: its test is that of the definition, and both sides of it fit. Assumes nothing.
-use mathlib.Core.Path.{◌∙◌, ◌≡◌, ap, sym}
+use Rattle.std.proofs.Common.{◌∙◌, ◌≡◌, ⊎_elim, ap, sym}
 use Prim.Native.Nat.{◌*◌, ◌≤◌}
 use native.Mathlib.Nat.{mul-le-mul}
 use native.Mathlib.Omega.{arith}
@@ -42,8 +42,6 @@ returns-else-n-k c =
 
 pub returns-in-Current : goal.returns-in-Current
 unfolding acts_as
-returns-in-Current c = arm (goal.at.returns-in-Current c).Start c.in-Current.is
-
-pub returns-in-Impedance : goal.returns-in-Impedance
-unfolding acts_as
-returns-in-Impedance c = arm (goal.at.returns-in-Impedance c).Start c.in-Impedance.is
+returns-in-Current c =
+    let s = (goal.at.returns-in-Current c).Start in
+    ⊎_elim (λ e. e ∙ arm s e) (λ e. e ∙ arm s e) c.in-Current.is

@@ -8,4 +8,4 @@ use Rattle.names.proofs.find.Goals as goal
 pub returns-then-name-there : goal.returns-then-name-there
 returns-then-name-there c =
     let a = c.args in
-    place_found a.name a.nodes.now a.n (omega arith) a.slots.now c.wide-guess.result (search rules) (rw (sym c.slot_of-slot.ensures) c.wide-guess.ensures) (omega arith) (search rules)
+    place_found a.name a.nodes.now a.n (omega arith) a.slots.now c.wide-guess.result (search rules) (rw (sym c.slot_of.ensures) c.wide-guess.ensures) (omega arith) (search rules)

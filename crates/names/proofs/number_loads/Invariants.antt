@@ -1,7 +1,6 @@
 -- `number_loads` meets its contract: the rows that passed have their numbers, the others are as they were. Assumes nothing.
 use mathlib.Core.List.{List}
 use mathlib.Core.Path.{◌≡◌}
-use Prim.Native.Nat.{◌-◌, ◌≤◌}
 use lib.ListN.{length, take}
 use Rattle.arrays.specs.Arrays.{load_names, load_rows}
 use Rattle.feeder.specs.declared.LoadRow.{LoadRow}
@@ -10,7 +9,4 @@ use Rattle.names.proofs.number_loads.Given as goal
 
 abbrev pub invariant-loop-i : goal.invariant-loop-i
 invariant-loop-i l =
-    (l.i ≤ l.total) × ((ls : List LoadRow) → l.names ≡ load_names ls → l.total ≡ length ls → l.initial.loads ≡ load_rows ls → l.loads ≡ loads_to (take l.n l.nodes) ls l.i)
-
-abbrev pub decreases-loop-i : goal.decreases-loop-i
-decreases-loop-i l = l.total - l.i
+    (ls : List LoadRow) → l.names ≡ load_names ls → l.total ≡ length ls → l.initial.loads ≡ load_rows ls → l.loads ≡ loads_to (take l.n l.nodes) ls l.i

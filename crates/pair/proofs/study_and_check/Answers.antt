@@ -1,38 +1,35 @@
 -- `study_and_check` meets its contract: where a report was written, it stands at the buffer's start, and the check passes it. Assumes nothing.
-use Rattle.std.proofs.Common.{List, ◌∙◌, ◌≡◌, sym, ℕ, ◌-◌, length, take, arith}
-use Rattle.answers.specs.declared.Refusal.{Refusal}
-use Rattle.ladder.specs.Study.{buffer_of, study_of}
+use Rattle.std.specs.Prelude.{Ok}
+use Rattle.std.proofs.Common.{◌∙◌, ◌≡◌, ◌≤◌, sym, length, take, arith}
+use Rattle.std.proofs.lemmas.List.{length-take-le}
+use Rattle.answers.specs.AnswerLaws.{not_good}
+use Rattle.answers.specs.Answers.{done}
+use Rattle.ladder.specs.Study.{study_of}
 use Rattle.ladder.proofs.StudyLaws.{study-good}
-use Rattle.ladder.specs.declared.Study.TheVariants.{Written}
 use Rattle.pair.proofs.Calls.{written-passes}
-use Rattle.verdicts.specs.Check.{check_of}
-use Rattle.verdicts.specs.declared.Verdict.{Verdict}
-use Rattle.verdicts.specs.declared.Verdict.TheVariants.{Fail}
+use Rattle.verdicts.specs.Check.{checked}
 use Rattle.pair.proofs.study_and_check.Goals as goal
-use Rattle.pair.proofs.study_and_check.Goals.{In-Fail}
+use Rattle.pair.proofs.study_and_check.Goals.{In_err-check, In_ok-written}
+
+-- the study's answer, which fits
+written : (c : In_ok-written) → study_of c.args.feeder.now (length c.args.out.now) ≡ Ok c.in_ok-written.written
+written c = sym c.study_feeder.ensures.answer ∙ c.in_ok-written.was
+
+fits : (c : In_ok-written) → c.in_ok-written.written.length ≤ length c.study_feeder.new.out
+fits c = omega (arith, (study-good _ _ _ (written c)).fits)
 
 pub slice_bounds-check-end : goal.slice_bounds-check-end
-slice_bounds-check-end c =
-    let e : study_of c.args.feeder.now (length c.args.out.now) ≡ Written c.in-Written.size c.in-Written.field-1 = sym c.study_feeder-answer.ensures.answer ∙ c.in-Written.is in
-    omega (arith, (study-good _ _ _ _ e).fits)
+slice_bounds-check-end c = fits (goal.at.slice_bounds-check-end c).In_ok-written
+
+pub slice_bounds-check-end-2 : goal.slice_bounds-check-end-2
+slice_bounds-check-end-2 c = sym (length-take-le c.in_ok-written.written.length c.study_feeder.new.out (fits (goal.at.slice_bounds-check-end-2 c).In_ok-written))
 
 -- the check passes what was written
-passes : (s out after : List ℕ) (len k : ℕ) (v : Verdict) (x : Refusal) → study_of s (length out) ≡ Written len k → after ≡ buffer_of s out → v ≡ check_of s (take (len - 0) after) → v ≡ Fail x → ⊥
-passes s out after len k v x e b a f =
-    let p = written-passes s out len k e in
-    let from_start : len - 0 ≡ len = omega arith in
-    cc
-
-never : (c : In-Fail) → ⊥
+never : (c : In_err-check) → ⊥
 never c =
-    passes c.args.feeder.now c.args.out.now c.study_feeder-answer.new.out c.in-Written.size c.in-Written.field-1 c.check-verdict.result c.in-Fail.x
-    (sym c.study_feeder-answer.ensures.answer ∙ c.in-Written.is) c.study_feeder-answer.ensures.buffer c.check-verdict.ensures.answer c.in-Fail.is
+    let w = c.in_ok-written.written in
+    let p : checked c.args.feeder.now (take w.length c.study_feeder.new.out) ≡ Ok done = rw c.study_feeder.ensures.buffer (written-passes c.args.feeder.now c.args.out.now w (written (goal.at.In_err-check c).In_ok-written)) in
+    not_good done c.in_err-check.field-0.0 (sym p ∙ sym c.check.ensures.answer ∙ c.in_err-check.was)
 
-pub returns-in-Fail-clause-answer : goal.returns-in-Fail-clause-answer
-returns-in-Fail-clause-answer c = absurd (never (goal.at.returns-in-Fail-clause-answer c).In-Fail)
-
-pub returns-in-Fail-clause-told : goal.returns-in-Fail-clause-told
-returns-in-Fail-clause-told c = absurd (never (goal.at.returns-in-Fail-clause-told c).In-Fail)
-
-pub returns-in-Fail-clause-first : goal.returns-in-Fail-clause-first
-returns-in-Fail-clause-first c = absurd (never (goal.at.returns-in-Fail-clause-first c).In-Fail)
+pub returns-in_err-check : goal.returns-in_err-check
+returns-in_err-check c = absurd (never (goal.at.returns-in_err-check c).In_err-check)

@@ -1,6 +1,5 @@
 -- `radial::climb` meets its contract: the order stays one. Assumes nothing.
 use mathlib.Core.Path.{◌≡◌}
-use Prim.Native.Nat.{◌+◌, ◌-◌}
 use lib.ListN.{length}
 use Rattle.arrays.specs.Arrays.{branches_of}
 use Rattle.radial.specs.Radial.{Placed, made}
@@ -8,6 +7,3 @@ use Rattle.radial.proofs.climb.Given as goal
 
 abbrev pub invariant-loop-node : goal.invariant-loop-node
 invariant-loop-node l = Placed (branches_of l.branches) l.rows (made l.len l.order l.rank) × (length l.met ≡ 201)
-
-abbrev pub decreases-loop-node : goal.decreases-loop-node
-decreases-loop-node l = l.rows + 1 - l.node

@@ -2,16 +2,15 @@
 use mathlib.Core.Path.{sym}
 use borrow.Author.Count.{below_more}
 use Rattle.radial.specs.First.{first-unranked, none-unranked}
-use borrow.Author.Rules.{rules}
 use native.Mathlib.Omega.{arith}
 use Rattle.radial.proofs.first_not_reached.Goals as goal
 
 pub returns-then-rank-i-eq0 : goal.returns-then-rank-i-eq0
 returns-then-rank-i-eq0 c =
-    sym (first-unranked _ _ _ c.requires c.loop-i.i c.loop-i.invariant.0 (omega arith) c.loop-i.invariant.1 c.if-rank-i-eq0.true)
+    sym (first-unranked _ _ _ c.requires c.loop-i.i (omega arith) (omega arith) c.loop-i.invariant c.if-rank-i-eq0.true)
 
 pub loop-i-preserved : goal.loop-i-preserved
-loop-i-preserved c = (search rules, below_more _ _ c.loop-i.invariant.1 (λ p. omega (arith, c.if-rank-i-eq0.false)))
+loop-i-preserved c = below_more _ _ c.loop-i.invariant (λ p. omega (arith, c.if-rank-i-eq0.false))
 
 pub returns : goal.returns
-returns c = sym (none-unranked _ _ _ c.requires (λ j p q. c.loop-i.invariant.1 j (omega arith) q))
+returns c = sym (none-unranked _ _ _ c.requires (λ j p q. c.loop-i.invariant j (omega arith) q))

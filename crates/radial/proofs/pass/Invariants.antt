@@ -1,5 +1,4 @@
 -- `radial::pass` meets its contract: the order stays one, and while none is placed, no row passed was to be placed. Assumes nothing.
-use Prim.Native.Nat.{◌+◌, ◌-◌}
 use Rattle.arrays.specs.Arrays.{branches_of}
 use Rattle.radial.specs.Radial.{made}
 use Rattle.radial.proofs.Placing.{Upto}
@@ -7,6 +6,3 @@ use Rattle.radial.proofs.pass.Given as goal
 
 abbrev pub invariant-loop-k : goal.invariant-loop-k
 invariant-loop-k l = Upto (branches_of l.branches) l.rows l.placed l.k (made l.len l.order l.rank)
-
-abbrev pub decreases-loop-k : goal.decreases-loop-k
-decreases-loop-k l = l.rows + 1 - l.k

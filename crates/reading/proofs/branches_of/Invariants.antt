@@ -1,5 +1,4 @@
 -- `reading::branches_of` meets its contract: the branches of the places passed stand in the list. Assumes nothing.
-use Prim.Native.Nat.{◌-◌}
 use Rattle.arrays.specs.Arrays.{branches_of}
 use Rattle.feeder.specs.Feeder.{no_branch}
 use Rattle.reading.proofs.Copied.{Copied}
@@ -7,6 +6,3 @@ use Rattle.reading.proofs.branches_of.Given as goal
 
 abbrev pub invariant-loop-k : goal.invariant-loop-k
 invariant-loop-k l = Copied no_branch 201 (branches_of l.branches) l.made l.k
-
-abbrev pub decreases-loop-k : goal.decreases-loop-k
-decreases-loop-k l = 201 - l.k

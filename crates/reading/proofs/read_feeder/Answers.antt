@@ -1,8 +1,15 @@
 -- `reading::read_feeder` meets its contract: what the arrays hold, as one value. Assumes nothing.
-use Rattle.reading.specs.Reading.{as-points, as-told, into-as}
+use Rattle.std.proofs.lemmas.Result.{err_from_is_err_and}
+use mathlib.Core.Path.{refl}
+use Rattle.reading.specs.Reading.{as-points, as-told, into-as, into-as-bad}
 use Rattle.reading.proofs.read_feeder.Goals as goal
+
+pub returns-in_err-settings : goal.returns-in_err-settings
+returns-in_err-settings c =
+    let p = err_from_is_err_and c.from_residual.result c.from_residual.ensures.1 in
+    rw (p.1, p.2) (let h = into-as-bad _ c.in_err-settings.ensures refl in record { answer = h; told = as-told h; first = as-points _ h })
 
 pub returns : goal.returns
 returns c =
-    let h = into-as c.read_into-read.ensures c.branches_of-branches.ensures c.loads_of-loads.ensures in
+    let h = into-as c.in_ok-settings.settings c.in_ok-settings.ensures refl c.branches_of-branches.ensures c.loads_of-loads.ensures in
     record { answer = h; told = as-told h; first = as-points _ h }

@@ -1,26 +1,19 @@
 -- `check` meets its contract: the report's length, the feeder's reader, then the tests of the report. Assumes nothing.
+use Rattle.std.specs.Prelude.{Err}
 use borrow.Author.Tests.{le-ltb, lt-ltb}
+use mathlib.Core.Path.{◌∙◌, ap}
+use Rattle.std.proofs.lemmas.Result.{err_from_is_err_and}
+use Rattle.answers.specs.declared.Refusal.{Refusal}
 use Rattle.arrays.specs.Arrays.{network_of}
-use Rattle.feeder.specs.Feeder.{reading}
-use Rattle.feeder.specs.declared.Network.{Network}
+use Rattle.reading.specs.Reading.{into-bad}
 use Rattle.report_check.specs.CheckStages.{check-feeder, check-long, check-read, promised}
-use Rattle.sweeps.specs.ReadKnown.{ReadKnown, read-good, read-refused}
+use Rattle.sweeps.specs.ReadKnown.{ReadKnown, read-good}
 use Rattle.report_check.proofs.check.Goals as goal
-use Rattle.report_check.proofs.check.Goals.{After-read_into-f, In_default, Start}
+use Rattle.report_check.proofs.check.Goals.{In_ok-settings}
 
-abbrev start : After-read_into-f → Start
-start p = (goal.at.After-read_into-f p).Start
-
--- the arrays that the feeder is read into
-abbrev network : After-read_into-f → Network
-network p =
-    let l = p.read_into-f.new in
-    network_of p.read_into-f.result.settings l.nodes l.branches l.loads l.order l.rank
-
--- the feeder that is read
-read : (c : In_default) → ReadKnown (start (goal.at.In_default c).After-read_into-f).args.feeder.now (network (goal.at.In_default c).After-read_into-f)
-read c =
-    read-good (start (goal.at.In_default c).After-read_into-f).args.feeder.now c.read_into-f.result (network (goal.at.In_default c).After-read_into-f) c.read_into-f.ensures c.in_default.is
+-- the feeder that is read, in the arrays that it is read into
+read : (c : In_ok-settings) → let l = c.read_into.new in ReadKnown c.args.feeder.now (network_of c.in_ok-settings.settings l.nodes l.branches l.loads l.order l.rank)
+read c = read-good c.args.feeder.now c.in_ok-settings.settings c.read_into.ensures c.in_ok-settings.was
 
 pub returns-then-long : goal.returns-then-long
 returns-then-long c =
@@ -28,18 +21,21 @@ returns-then-long c =
     let p = promised a.feeder.now a.report.now (check-long a.feeder.now a.report.now (lt-ltb _ _ c.if-long.true)) in
     record { answer = p.0; account = p.1.0; told = p.1.1.0; first = p.1.1.1 }
 
-pub returns-in-Refused : goal.returns-in-Refused
-returns-in-Refused c =
-    let a = (start (goal.at.returns-in-Refused c).After-read_into-f).args in
-    let p = promised a.feeder.now a.report.now (check-feeder a.feeder.now a.report.now (le-ltb _ _ c.if-long.false) _ (read-refused (reading a.feeder.now) c.read_into-f.result (network (goal.at.returns-in-Refused c).After-read_into-f) _ c.read_into-f.ensures c.in-Refused.is)) in
+pub returns-in_err-settings : goal.returns-in_err-settings
+returns-in_err-settings c =
+    let a = c.args in
+    let x = c.in_err-settings.field-0.0 in
+    let r = err_from_is_err_and c.from_residual.result c.from_residual.ensures.1 in
+    let p = promised a.feeder.now a.report.now
+    (r.1 ∙ ap (λ (y : Refusal). Err y) r.2 ∙ check-feeder a.feeder.now a.report.now (le-ltb _ _ c.if-long.false) x (into-bad x c.read_into.ensures c.in_err-settings.was)) in
     record { answer = p.0; account = p.1.0; told = p.1.1.0; first = p.1.1.1 }
 
 pub check_text-requires : goal.check_text-requires
-check_text-requires c = (read (goal.at.check_text-requires c).In_default).known
+check_text-requires c = (read (goal.at.check_text-requires c).In_ok-settings).known
 
 pub returns : goal.returns
 returns c =
-    let a = (start (goal.at.returns c).After-read_into-f).args in
-    let w = read (goal.at.returns c).In_default in
+    let a = c.args in
+    let w = read (goal.at.returns c).In_ok-settings in
     let p = promised a.feeder.now a.report.now (check-read a.feeder.now a.report.now (le-ltb _ _ c.if-long.false) w.feeder w.whole (c.check_text.ensures w.feeder w.held)) in
     record { answer = p.0; account = p.1.0; told = p.1.1.0; first = p.1.1.1 }

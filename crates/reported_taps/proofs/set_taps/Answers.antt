@@ -6,29 +6,23 @@ use lib.ListN.{get_or}
 use Rattle.arrays.specs.Arrays.{branches_of}
 use Rattle.feeder.specs.Feeder.{no_taps}
 use Rattle.feeder.specs.NetworkLaws.{get_or_kept}
-use Rattle.feeder.specs.declared.Taps.{Taps}
+use Rattle.feeder.specs.Phased.{Taps}
 use Rattle.branch_taps.specs.Setting.{Setting, set-array, setting-next, setting-start}
 use native.Mathlib.Omega.{arith}
 use Rattle.reported_taps.proofs.set_taps.Invariants.{given}
 use Rattle.reported_taps.proofs.set_taps.Goals as goal
 
 pub loop-k-init : goal.loop-k-init
-loop-k-init c = (omega arith, (omega arith, setting-start (branches_of c.args.branches.now) (given c.args.taps.now)))
+loop-k-init c = setting-start (branches_of c.args.branches.now) (given c.args.taps.now)
 
 pub loop-k-preserved : goal.loop-k-preserved
 loop-k-preserved c =
-    let m = branches_of c.args.branches.now in (
-      omega arith,
-      (
-        omega (arith, c.loop-k-test.true),
-        setting-next c.loop-k.k m (branches_of c.loop-k.branches) (branches_of c.set_row.new.branches) (given c.args.taps.now)
-            (omega (arith, c.loop-k.invariant.0)) (omega (arith, c.requires.branches_len, c.requires.rows_bound, c.loop-k-test.true)) c.set_row.ensures c.loop-k.invariant.1.1,
-      ),
-    )
+    setting-next c.loop-k.k (branches_of c.args.branches.now) (branches_of c.loop-k.branches) (branches_of c.set_row.new.branches) (given c.args.taps.now)
+    c.loop-k.auto.k (omega (arith, c.requires.branches_len, c.requires.rows_bound, c.loop-k-test.true)) c.set_row.ensures c.loop-k.invariant
 
 pub returns : goal.returns
 returns c =
     let rows = c.args.rows in
     λ f t e r u q. let w : Setting (rows + 1) (branches_of c.args.branches.now) (branches_of c.loop-k.branches) (given c.args.taps.now) =
-    (let z : c.loop-k.k ≡ rows + 1 = omega (arith, c.loop-k-test.false, c.loop-k.invariant.1.0) in rw z at c.loop-k.invariant.1.1) in
+    (let z : c.loop-k.k ≡ rows + 1 = omega (arith, c.loop-k-test.false, c.loop-k.auto.k-end) in rw z at c.loop-k.invariant) in
     set-array f rows _ _ _ t e r c.requires.rows_bound (λ k p z. ap (λ (l : List Taps). get_or l k no_taps) u ∙ get_or_kept no_taps 201 t k q) w

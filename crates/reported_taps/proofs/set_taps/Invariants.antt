@@ -1,11 +1,11 @@
 -- `set_taps` meets its contract: the rows before k have their taps. Assumes nothing.
 use mathlib.Core.List.{List}
-use Prim.Native.Nat.{◌+◌, ◌-◌, ◌≤◌, ℕ}
+use Prim.Native.Nat.{ℕ}
 use lib.IntN.{ℤ}
 use lib.ListN.{get_or}
 use Rattle.arrays.specs.Arrays.{branches_of}
 use Rattle.feeder.specs.Feeder.{no_taps}
-use Rattle.feeder.specs.declared.Taps.{Taps}
+use Rattle.feeder.specs.Phased.{Taps}
 use Rattle.tap_table.specs.TapTable.{taps_of}
 use Rattle.branch_taps.specs.Setting.{Setting}
 use Rattle.reported_taps.proofs.set_taps.Given as goal
@@ -15,7 +15,4 @@ abbrev pub given : List (List ℤ) → ℕ → Taps
 given taps k = get_or (taps_of taps) k no_taps
 
 abbrev pub invariant-loop-k : goal.invariant-loop-k
-invariant-loop-k l = (1 ≤ l.k) × ((l.k ≤ l.rows + 1) × Setting l.k (branches_of l.initial.branches) (branches_of l.branches) (given l.taps))
-
-abbrev pub decreases-loop-k : goal.decreases-loop-k
-decreases-loop-k l = (l.rows + 1) - l.k
+invariant-loop-k l = Setting l.k (branches_of l.initial.branches) (branches_of l.branches) (given l.taps)

@@ -1,27 +1,31 @@
 -- `move_row` meets its contract: a regulator's taps are moved and stored, any other branch stays. Assumes nothing.
-use Rattle.std.proofs.Common.{◌∙◌, ◌≡◌, ap, subst, sym, get_or}
-use Rattle.std.specs.Prelude.{not, set}
+use Rattle.std.specs.Prelude.{false, not, set, get_or, ◌≡◌}
+use Rattle.std.proofs.Common.{◌∙◌, ap, refl, sym}
+use Rattle.std.proofs.lemmas.List.{set-get_or}
 use Rattle.arrays.specs.Arrays.{branches_of}
-use Rattle.equations.specs.Limits.{DeviceOk}
 use Rattle.equations.specs.Taps.{moved_on, same_taps}
 use Rattle.feeder.specs.Feeder.{no_branch, regulates, tapped_branch, taps_on}
 use Rattle.feeder.specs.declared.Branch.{Branch}
 use Rattle.feeder.specs.declared.Device.{Device}
-use Rattle.feeder.specs.declared.Device.TheVariants.{Regulator}
-use Rattle.feeder.specs.declared.Taps.{Taps}
+use Rattle.feeder.specs.declared.Device.TheVariants.{Line, Regulator, Transformer}
+use Rattle.feeder.specs.Phased.{Taps}
 use Rattle.rounds.specs.Moving.{row-without-taps}
-use Rattle.taps.specs.MovedTaps.{moved_ok, regulator-moves}
+use Rattle.taps.specs.MovedTaps.{regulator-moves}
 use Rattle.rounds.proofs.move_row.Goals as goal
-use Rattle.rounds.proofs.move_row.Goals.{After-moved_taps-t, In-Regulator}
+use Rattle.rounds.proofs.move_row.Goals.{After-moved_taps-t, In-Regulator, In_default}
 
 -- the branch that was read is a regulator
 told : (c : In-Regulator) → (get_or (branches_of c.args.branches.now) c.args.k no_branch).device ≡ Regulator c.in-Regulator.x
 told c = ap (λ (b : Branch). b.device) (sym c.branch_at-b.ensures) ∙ c.in-Regulator.is
 
-pub same_taps-requires-clause-taps_ok : goal.same_taps-requires-clause-taps_ok
-same_taps-requires-clause-taps_ok c =
-    let ok : DeviceOk (Regulator c.in-Regulator.x) = subst (λ (d : Device). DeviceOk d) (told (goal.at.same_taps-requires-clause-taps_ok c).In-Regulator) c.requires.device_ok in
-    rw c.moved_taps-t.ensures (moved_ok c.in-Regulator.x _ c.args.u c.args.i ok.taps)
+-- it is none
+none-told : (d : Device) → ((x : _) → d ≡ Regulator x → ⊥) → regulates d ≡ false
+none-told (Line z) h = refl
+none-told (Regulator x) h = absurd (h x refl)
+none-told (Transformer x) h = refl
+
+stays : (c : In_default) → regulates (get_or (branches_of c.args.branches.now) c.args.k no_branch).device ≡ false
+stays c = ap (λ (b : Branch). regulates b.device) (sym c.branch_at-b.ensures) ∙ none-told c.branch_at-b.result.device c.in_default.not-Regulator
 
 -- the taps that were worked are those of the definition
 moved : (c : After-moved_taps-t) → c.moved_taps-t.result ≡ moved_on (get_or (branches_of c.args.branches.now) c.args.k no_branch) c.args.u c.args.i
@@ -29,21 +33,19 @@ moved c =
     c.moved_taps-t.ensures ∙ sym (regulator-moves c.branch_at-b.result c.args.u c.args.i c.in-Regulator.x c.in-Regulator.is) ∙
     ap (λ (y : Branch). moved_on y c.args.u c.args.i) c.branch_at-b.ensures
 
-pub returns-in-Line-clause-any : goal.returns-in-Line-clause-any
-returns-in-Line-clause-any c =
-    sym (ap not (row-without-taps (get_or (branches_of c.args.branches.now) c.args.k no_branch) c.args.u c.args.i (ap (λ (b : Branch). regulates b.device) (sym c.branch_at-b.ensures) ∙ ap regulates c.in-Line.is)).0)
+pub returns-in_default : goal.returns-in_default
+returns-in_default c =
+    let b = get_or (branches_of c.args.branches.now) c.args.k no_branch in
+    let e = row-without-taps b c.args.u c.args.i (stays c) in
+    record { any = sym (ap not e.0); row = sym (ap (set (branches_of c.args.branches.now) c.args.k) e.1 ∙ set-get_or (branches_of c.args.branches.now) c.args.k no_branch) }
 
-pub returns-in-Regulator-clause-any : goal.returns-in-Regulator-clause-any
-returns-in-Regulator-clause-any c =
+pub returns-clause-any : goal.returns-clause-any
+returns-clause-any c =
     ap not
-    (c.same_taps.ensures ∙ (λ j. same_taps (moved (goal.at.returns-in-Regulator-clause-any c).After-moved_taps-t j) (taps_on (sym (told (goal.at.returns-in-Regulator-clause-any c).In-Regulator) j))))
+    (c.same_taps.ensures ∙ (λ j. same_taps (moved (goal.at.returns-clause-any c).After-moved_taps-t j) (taps_on (sym (told (goal.at.returns-clause-any c).In-Regulator) j))))
 
-pub returns-in-Regulator-clause-row : goal.returns-in-Regulator-clause-row
-returns-in-Regulator-clause-row c =
+pub returns-clause-row : goal.returns-clause-row
+returns-clause-row c =
     c.put_taps.ensures ∙
     ap (λ (y : Taps). set (branches_of c.args.branches.now) c.args.k (tapped_branch y (get_or (branches_of c.args.branches.now) c.args.k no_branch)))
-    (moved (goal.at.returns-in-Regulator-clause-row c).After-moved_taps-t)
-
-pub returns-in-Transformer-clause-any : goal.returns-in-Transformer-clause-any
-returns-in-Transformer-clause-any c =
-    sym (ap not (row-without-taps (get_or (branches_of c.args.branches.now) c.args.k no_branch) c.args.u c.args.i (ap (λ (b : Branch). regulates b.device) (sym c.branch_at-b.ensures) ∙ ap regulates c.in-Transformer.is)).0)
+    (moved (goal.at.returns-clause-row c).After-moved_taps-t)

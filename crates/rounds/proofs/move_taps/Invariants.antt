@@ -1,11 +1,7 @@
 -- `move_taps` meets its contract: the rows before k have moved. Assumes nothing.
-use Rattle.std.proofs.Common.{◌+◌, ◌-◌, ◌≤◌}
 use Rattle.arrays.specs.Arrays.{branches_of, threes_of}
 use Rattle.rounds.specs.Moving.{Moving}
 use Rattle.rounds.proofs.move_taps.Given as goal
 
 abbrev pub invariant-loop-k : goal.invariant-loop-k
-invariant-loop-k l = (1 ≤ l.k) × ((l.k ≤ l.rows + 1) × Moving l.k (branches_of l.fn.branches) (branches_of l.branches) (threes_of l.v) (threes_of l.i) l.changed)
-
-abbrev pub decreases-loop-k : goal.decreases-loop-k
-decreases-loop-k l = (l.rows + 1) - l.k
+invariant-loop-k l = Moving l.k (branches_of l.fn.branches) (branches_of l.branches) (threes_of l.v) (threes_of l.i) l.changed

@@ -1,14 +1,12 @@
 -- `moved_taps` meets its contract, phase by phase. Assumes nothing.
 use mathlib.Core.Bool.{Bool, cond}
 use mathlib.Core.Path.{◌∙◌, ◌≡◌, ap, sym}
-use native.Mathlib.Omega.{arith}
 use lib.IntN.{ℤ}
 use mir.Facts.{to_z-of_z}
 use mir.Syntax.{w64}
 use mir.Val.{SFits}
 use borrow.Author.Rules.{sfits_of}
 use Rattle.equations.specs.Taps.{moved_tap, moved_taps, relay_voltage}
-use Rattle.integers.specs.Machine.{abs-read}
 use Rattle.integers.specs.Pairs.{inside}
 use Rattle.taps.proofs.moved_taps.Goals as goal
 use Rattle.taps.proofs.moved_taps.Goals.{After-inside, Start}
@@ -23,20 +21,14 @@ pub returns-then-inside : goal.returns-then-inside
 unfolding moved_taps
 returns-then-inside c = simp (tested (goal.at.returns-then-inside c).After-inside c.if-inside.true)
 
-pub phase_tap-a-requires : goal.phase_tap-a-requires
-phase_tap-a-requires c =
-    let h = c.requires.changer_ok in
-    record { level_bound = h.level; relay_ok = h.relay (tested (goal.at.phase_tap-a-requires c).After-inside c.if-inside.false); within = c.requires.within3.a; within_2 = c.requires.within3_2.a; tap_bound = omega (arith, abs-read (fits (goal.at.phase_tap-a-requires c).Start).1.0, h.taps.a) }
+pub phase_tap-a-requires-clause-relay_ok : goal.phase_tap-a-requires-clause-relay_ok
+phase_tap-a-requires-clause-relay_ok c = c.requires.changer_ok.relay (tested (goal.at.phase_tap-a-requires-clause-relay_ok c).After-inside c.if-inside.false)
 
-pub phase_tap-b-requires : goal.phase_tap-b-requires
-phase_tap-b-requires c =
-    let h = c.requires.changer_ok in
-    record { level_bound = h.level; relay_ok = h.relay (tested (goal.at.phase_tap-b-requires c).After-inside c.if-inside.false); within = c.requires.within3.b; within_2 = c.requires.within3_2.b; tap_bound = omega (arith, abs-read (fits (goal.at.phase_tap-b-requires c).Start).1.1.0, h.taps.b) }
+pub phase_tap-b-requires-clause-relay_ok : goal.phase_tap-b-requires-clause-relay_ok
+phase_tap-b-requires-clause-relay_ok c = c.requires.changer_ok.relay (tested (goal.at.phase_tap-b-requires-clause-relay_ok c).After-inside c.if-inside.false)
 
-pub phase_tap-c-requires : goal.phase_tap-c-requires
-phase_tap-c-requires c =
-    let h = c.requires.changer_ok in
-    record { level_bound = h.level; relay_ok = h.relay (tested (goal.at.phase_tap-c-requires c).After-inside c.if-inside.false); within = c.requires.within3.c; within_2 = c.requires.within3_2.c; tap_bound = omega (arith, abs-read (fits (goal.at.phase_tap-c-requires c).Start).1.1.1, h.taps.c) }
+pub phase_tap-c-requires-clause-relay_ok : goal.phase_tap-c-requires-clause-relay_ok
+phase_tap-c-requires-clause-relay_ok c = c.requires.changer_ok.relay (tested (goal.at.phase_tap-c-requires-clause-relay_ok c).After-inside c.if-inside.false)
 
 pub returns : goal.returns
 unfolding moved_taps

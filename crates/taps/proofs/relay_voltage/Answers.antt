@@ -6,7 +6,7 @@ use lib.IntN.{nat_abs}
 use mir.Syntax.{w64}
 use mir.Val.{SFits}
 use borrow.Author.Rules.{sfits_of}
-use Rattle.equations.specs.Limits.{counted-most, counted-some}
+use Rattle.equations.specs.Limits.{counted-some}
 use Rattle.equations.specs.Taps.{relay_voltage}
 use Rattle.integers.specs.Machine.{abs-read}
 use Rattle.integers.specs.PairLaws.{Within, room, within_more, within-mul}
@@ -32,23 +32,8 @@ seen c = c.round-seen.ensures ∙ ap (rnd_pair c.args.u) (by-potential (goal.at.
 less : (c : After-round-less) → c.round-less.result ≡ rnd_pair (c.args.x.z ·c c.args.i) (nat_abs c.args.x.current * 10000000)
 less c = c.round-less.ensures ∙ (λ i. rnd_pair (c.mul-drop.ensures i) (by-current (goal.at.After-round-less c).After-size-current i * 10000000))
 
-pub round-seen-requires : goal.round-seen-requires
-round-seen-requires c =
-    let h = c.requires.relay_ok.potential in
-    record { d_nonzero = rw (by-potential c) (counted-some h); d_bound = omega (arith, by-potential c, counted-most h) }
-
 pub mul-drop-requires : goal.mul-drop-requires
 mul-drop-requires c = room c.requires.relay_ok.z c.requires.within_2 tt
-
-pub overflow_mul-current : goal.overflow_mul-current
-overflow_mul-current c = record { fits = omega (arith, by-current (goal.at.overflow_mul-current c).After-size-current, counted-most c.requires.relay_ok.current) }
-
-pub round-less-requires : goal.round-less-requires
-round-less-requires c =
-    let h = c.requires.relay_ok.current in
-    let e = by-current (goal.at.round-less-requires c).After-size-current in
-    let p = counted-some h in
-    record { d_nonzero = omega (arith, e); d_bound = omega (arith, e, counted-most h) }
 
 pub sub-requires : goal.sub-requires
 sub-requires c =

@@ -1,12 +1,10 @@
 -- `stepped` meets its contract: the step is taken where it stays within ±16. Assumes nothing.
 use mathlib.Core.Bool.{Bool}
 use mathlib.Core.Path.{◌∙◌, ◌≡◌, ap, sym}
-use native.Mathlib.Omega.{arith}
 use lib.IntN.{◌+ℤ◌}
 use mir.Facts.{to_z-of_z}
 use borrow.Author.Rules.{rules}
 use Rattle.equations.specs.Taps.{stepped}
-use Rattle.integers.specs.Machine.{abs-read}
 use Rattle.integers.specs.Pairs.{inside}
 use Rattle.taps.proofs.stepped.Goals as goal
 use Rattle.taps.proofs.stepped.Goals.{After-add-t, After-inside}
@@ -16,9 +14,6 @@ moved c = c.add-t.ensures.value ∙ (λ i. to_z-of_z c.ranges.tap i +ℤ to_z-of
 
 tested : (c : After-inside) {d : Bool} → c.inside.result ≡ d → inside 16 (c.args.tap +ℤ c.args.step) ≡ d
 tested c t = sym (ap (inside 16) (to_z-of_z c.add-t.ensures.fits ∙ moved (goal.at.After-inside c).After-add-t)) ∙ sym c.inside.ensures ∙ t
-
-pub add-t-requires : goal.add-t-requires
-add-t-requires c = omega (arith, abs-read c.ranges.tap, abs-read c.ranges.step, c.requires.step_bound, c.requires.tap_bound)
 
 pub returns-then-inside : goal.returns-then-inside
 unfolding stepped

@@ -28,14 +28,7 @@ bracket c = c.add-bracket.ensures.value ∙ (λ i. twice (goal.at.After-add-brac
 
 small : (c : After-add-bracket) → nat_abs c.add-bracket.result ≤ 60000
 small c =
-    omega (arith, c.add-bracket.ensures.size, abs-read c.mul-twice.ensures.fits, c.mul-twice.ensures.size, abs-read (fits (goal.at.After-add-bracket c).Start).0, abs-read (fits (goal.at.After-add-bracket c).Start).1, c.requires.level_bound, c.requires.band_bound)
-
-pub mul-twice-requires : goal.mul-twice-requires
-mul-twice-requires c = omega (arith, abs-read (fits (goal.at.mul-twice-requires c).Start).0, c.requires.level_bound)
-
-pub add-bracket-requires : goal.add-bracket-requires
-add-bracket-requires c =
-    omega (arith, abs-read c.mul-twice.ensures.fits, c.mul-twice.ensures.size, abs-read (fits (goal.at.add-bracket-requires c).Start).0, abs-read (fits (goal.at.add-bracket-requires c).Start).1, c.requires.level_bound, c.requires.band_bound)
+    omega (arith, c.add-bracket.ensures.size, abs-read c.mul-twice.ensures.fits, c.mul-twice.ensures.size, abs-read (fits (goal.at.After-add-bracket c).Start).0, abs-read (fits (goal.at.After-add-bracket c).Start).1, c.requires.level, c.requires.band)
 
 -- the sides of the test
 left : (c : After-size-k) → 4 * c.square-m.result ≡ 4 * square c.args.r
@@ -46,9 +39,6 @@ right c = c.size-k.ensures ∙ abs-read c.add-bracket.ensures.fits
 
 most : (c : After-size-k) → c.size-k.result * c.size-k.result ≤ 3600000000
 most c = let h : c.size-k.result ≤ 60000 = rw (right c) (small (goal.at.After-size-k c).After-add-bracket) in mul-le-mul h h
-
-pub overflow_mul-result : goal.overflow_mul-result
-overflow_mul-result c = record { fits = omega (arith, most c) }
 
 pub overflow_mul-result-2 : goal.overflow_mul-result-2
 overflow_mul-result-2 c = record { fits = omega (arith, left c, square-bound c.requires.within) }

@@ -32,14 +32,7 @@ bracket c = c.sub-bracket.ensures.value ∙ (λ i. twice (goal.at.After-sub-brac
 
 small : (c : After-sub-bracket) → nat_abs c.sub-bracket.result ≤ 60000
 small c =
-    omega (arith, c.sub-bracket.ensures.size, abs-read c.mul-twice.ensures.fits, c.mul-twice.ensures.size, abs-read (fits (goal.at.After-sub-bracket c).Start).0, abs-read (fits (goal.at.After-sub-bracket c).Start).1, c.requires.level_bound, c.requires.band_bound)
-
-pub mul-twice-requires : goal.mul-twice-requires
-mul-twice-requires c = omega (arith, abs-read (fits (goal.at.mul-twice-requires c).Start).0, c.requires.level_bound)
-
-pub sub-bracket-requires : goal.sub-bracket-requires
-sub-bracket-requires c =
-    omega (arith, abs-read c.mul-twice.ensures.fits, c.mul-twice.ensures.size, abs-read (fits (goal.at.sub-bracket-requires c).Start).0, abs-read (fits (goal.at.sub-bracket-requires c).Start).1, c.requires.level_bound, c.requires.band_bound)
+    omega (arith, c.sub-bracket.ensures.size, abs-read c.mul-twice.ensures.fits, c.mul-twice.ensures.size, abs-read (fits (goal.at.After-sub-bracket c).Start).0, abs-read (fits (goal.at.After-sub-bracket c).Start).1, c.requires.level, c.requires.band)
 
 -- a bracket below 0 is not at least 0, and one that is not below 0 is
 below : (b : ℤ) → lt_z b (pos 0) ≡ true → le_z (pos 0) b ≡ false
@@ -68,9 +61,6 @@ most c = let h : c.size-k.result ≤ 60000 = rw (right c) (small (goal.at.After-
 
 pub overflow_mul-result : goal.overflow_mul-result
 overflow_mul-result c = record { fits = omega (arith, left c, square-bound c.requires.within) }
-
-pub overflow_mul-result-2 : goal.overflow_mul-result-2
-overflow_mul-result-2 c = record { fits = omega (arith, most c) }
 
 pub returns : goal.returns
 unfolding wants_up

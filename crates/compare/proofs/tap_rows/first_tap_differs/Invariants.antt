@@ -1,13 +1,10 @@
 -- `compare::tap_rows::first_tap_differs` meets its contract: at each turn the search from here on is the whole search. Assumes nothing.
 use mathlib.Core.Path.{◌≡◌}
-use Prim.Native.Nat.{◌+◌, ◌-◌, ◌<◌, ◌≤◌}
+use Prim.Native.Nat.{◌<◌}
 use Rattle.arrays.specs.Arrays.{branches_of, threes_of}
 use Rattle.compare.specs.Compare.{tap_moves, tap_scan}
 use Rattle.compare.proofs.tap_rows.first_tap_differs.Given as goal
 
 abbrev pub invariant-loop-k : goal.invariant-loop-k
 invariant-loop-k l =
-    (1 ≤ l.k) × (l.j < l.k) × (tap_scan (tap_moves (branches_of l.branches) (branches_of l.own) (threes_of l.voltages) (threes_of l.currents)) (branches_of l.branches) l.rows 1 0 ≡ tap_scan (tap_moves (branches_of l.branches) (branches_of l.own) (threes_of l.voltages) (threes_of l.currents)) (branches_of l.branches) l.rows l.k l.j)
-
-abbrev pub decreases-loop-k : goal.decreases-loop-k
-decreases-loop-k l = l.rows + 1 - l.k
+    record { before : l.j < l.k; rest : tap_scan (tap_moves (branches_of l.branches) (branches_of l.own) (threes_of l.voltages) (threes_of l.currents)) (branches_of l.branches) l.rows 1 0 ≡ tap_scan (tap_moves (branches_of l.branches) (branches_of l.own) (threes_of l.voltages) (threes_of l.currents)) (branches_of l.branches) l.rows l.k l.j }

@@ -1,12 +1,9 @@
 -- `compare::tap_rows::first_tap_name` meets its contract: at each turn the search from here on is the whole search. Assumes nothing.
 use mathlib.Core.Path.{◌≡◌}
-use Prim.Native.Nat.{◌+◌, ◌-◌, ◌<◌, ◌≤◌}
+use Prim.Native.Nat.{◌<◌}
 use Rattle.arrays.specs.Arrays.{branches_of}
 use Rattle.compare.specs.Compare.{tap_name_differs, tap_scan}
 use Rattle.compare.proofs.tap_rows.first_tap_name.Given as goal
 
 abbrev pub invariant-loop-k : goal.invariant-loop-k
-invariant-loop-k l = (1 ≤ l.k) × (l.j < l.k) × (tap_scan (tap_name_differs l.nodes l.tap_names) (branches_of l.branches) l.rows 1 0 ≡ tap_scan (tap_name_differs l.nodes l.tap_names) (branches_of l.branches) l.rows l.k l.j)
-
-abbrev pub decreases-loop-k : goal.decreases-loop-k
-decreases-loop-k l = l.rows + 1 - l.k
+invariant-loop-k l = record { before : l.j < l.k; rest : tap_scan (tap_name_differs l.nodes l.tap_names) (branches_of l.branches) l.rows 1 0 ≡ tap_scan (tap_name_differs l.nodes l.tap_names) (branches_of l.branches) l.rows l.k l.j }

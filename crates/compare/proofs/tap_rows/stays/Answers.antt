@@ -8,12 +8,8 @@ use Rattle.equations.specs.Taps.{same_taps}
 use Rattle.feeder.specs.Feeder.{level_of, no_branch, taps_on}
 use Rattle.integers.specs.Pairs.{inside}
 use Rattle.compare.specs.Compare.{rests_in, stays_in}
-use Rattle.compare.specs.TapRows.{taps-ok}
 use Rattle.compare.proofs.tap_rows.stays.Goals as goal
 use Rattle.compare.proofs.tap_rows.stays.Goals.{Start}
-
-pub rests-requires : goal.rests-requires
-rests-requires c = let h = c.requires in record { k_bound = h.k_bound; device_ok = h.device_ok_2; within3 = h.within3; within3_2 = h.within3_2 }
 
 -- what has to hold, by the test of the level
 by_level : (s : Start) {b : Bool} → let a = s.args in let old = (get_or (branches_of a.branches.now) a.k no_branch).device in let new = (get_or (branches_of a.own.now) a.k no_branch).device in
@@ -27,11 +23,6 @@ by_level s e =
 pub returns-then-level_at : goal.returns-then-level_at
 unfolding is_on
 returns-then-level_at c = c.rests.ensures ∙ by_level (goal.at.returns-then-level_at c).Start (not-true _ (sym c.level_at.ensures ∙ c.if-level_at.true))
-
-pub same_taps-requires : goal.same_taps-requires
-same_taps-requires c =
-    let h = c.requires in
-    record { taps_ok = rw c.taps_at-reported.ensures (taps-ok (get_or (branches_of c.args.own.now) c.args.k no_branch).device h.device_ok_2); taps_ok_2 = rw c.taps_at-filed.ensures (taps-ok (get_or (branches_of c.args.branches.now) c.args.k no_branch).device h.device_ok) }
 
 pub returns : goal.returns
 unfolding is_on

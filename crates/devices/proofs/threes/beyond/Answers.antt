@@ -5,4 +5,4 @@ use Rattle.equations.specs.Sizes.{beyond3-not}
 use Rattle.devices.proofs.threes.beyond.Goals as goal
 
 pub returns : goal.returns
-returns c = ap not c.within-w.ensures ∙ sym (beyond3-not c.args.x)
+returns c = ap not c.within.ensures ∙ sym (beyond3-not c.args.x)

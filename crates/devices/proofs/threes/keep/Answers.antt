@@ -1,7 +1,11 @@
 -- `threes::keep` meets its contract, phase by phase. Assumes nothing.
-use Rattle.equations.specs.Equations.{each, masked}
+use mathlib.Core.Bool.{cond}
+use Rattle.equations.specs.Equations.{at, masked}
+use Rattle.feeder.specs.Feeder.{has}
+use Rattle.integers.specs.Pairs.{0c}
+use Rattle.devices.proofs.Phased.{each-of}
 use Rattle.devices.proofs.threes.keep.Goals as goal
 
 pub returns : goal.returns
-unfolding masked each
-returns c = λ i. record { a = c.kept-a.ensures i; b = c.kept-b.ensures i; c = c.kept-c.ensures i }
+unfolding masked
+returns c = each-of (λ p. cond (has c.args.f p) (at c.args.x p) 0c) c.zip.ensures.a c.zip.ensures.b c.zip.ensures.c

@@ -1,7 +1,9 @@
 -- `threes::plus` meets its contract, phase by phase. Assumes nothing.
-use Rattle.equations.specs.Equations.{each, plus3}
+use Rattle.equations.specs.Equations.{at, plus3}
+use Rattle.integers.specs.Pairs.{◌+c◌}
+use Rattle.devices.proofs.Phased.{each-of}
 use Rattle.devices.proofs.threes.plus.Goals as goal
 
 pub returns : goal.returns
-unfolding plus3 each
-returns c = λ i. record { a = c.add-a.ensures i; b = c.add-b.ensures i; c = c.add-c.ensures i }
+unfolding plus3
+returns c = each-of (λ p. at c.args.x p +c at c.args.y p) c.zip.ensures.a c.zip.ensures.b c.zip.ensures.c

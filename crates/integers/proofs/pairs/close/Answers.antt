@@ -5,4 +5,4 @@ use Rattle.integers.proofs.pairs.close.Goals as goal
 
 pub returns : goal.returns
 unfolding close within ◌-c◌
-returns c = c.within.ensures ∙ ap (within c.args.n) c.sub-d.ensures
+returns c = c.within.ensures ∙ ap (within c.args.n) c.sub.ensures

@@ -6,21 +6,21 @@ use Rattle.integers.specs.Bools.{and_yes, and_no}
 use Rattle.integers.specs.Pairs.{inside, within}
 use Rattle.integers.specs.PairLaws.{Fits}
 use Rattle.integers.proofs.pairs.within.Goals as goal
-use Rattle.integers.proofs.pairs.within.Goals.{After-inside-p, After-inside-q, Start}
+use Rattle.integers.proofs.pairs.within.Goals.{After-inside, After-inside-then-inside, Start}
 
 fits : (s : Start) → Fits s.args.x
 fits s = search sfits_of
 
-first : (c : After-inside-p) → c.inside-p.result ≡ inside c.args.n c.args.x.re
-first c = c.inside-p.ensures ∙ ap (inside c.args.n) (to_z-of_z (fits (goal.at.After-inside-p c).Start).re)
+first : (c : After-inside) → c.inside.result ≡ inside c.args.n c.args.x.re
+first c = c.inside.ensures ∙ ap (inside c.args.n) (to_z-of_z (fits (goal.at.After-inside c).Start).re)
 
-second : (c : After-inside-q) → c.inside-q.result ≡ inside c.args.n c.args.x.im
-second c = c.inside-q.ensures ∙ ap (inside c.args.n) (to_z-of_z (fits (goal.at.After-inside-q c).Start).im)
+second : (c : After-inside-then-inside) → c.inside-then-inside.result ≡ inside c.args.n c.args.x.im
+second c = c.inside-then-inside.ensures ∙ ap (inside c.args.n) (to_z-of_z (fits (goal.at.After-inside-then-inside c).Start).im)
 
-pub returns-then-p : goal.returns-then-p
+pub returns-then-inside : goal.returns-then-inside
 unfolding within
-returns-then-p c = and_yes c.if-p.true (first (goal.at.returns-then-p c).After-inside-p) (second (goal.at.returns-then-p c).After-inside-q)
+returns-then-inside c = and_yes c.if-inside.true (first (goal.at.returns-then-inside c).After-inside) (second (goal.at.returns-then-inside c).After-inside-then-inside)
 
-pub returns-else-p : goal.returns-else-p
+pub returns-else-inside : goal.returns-else-inside
 unfolding within
-returns-else-p c = and_no _ c.if-p.false (first (goal.at.returns-else-p c).After-inside-p)
+returns-else-inside c = and_no _ c.if-inside.false (first (goal.at.returns-else-inside c).After-inside)

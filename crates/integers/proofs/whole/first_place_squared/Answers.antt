@@ -1,6 +1,5 @@
 -- `whole::first_place_squared` meets its contract: a shift by twice the number of digits behind the first. Assumes nothing.
 use mathlib.Core.Path.{ap, sym}
-use native.Mathlib.Omega.{arith}
 use Rattle.integers.specs.RootSteps.{place_squared}
 use Rattle.integers.proofs.RootSteps.{place-shifted}
 use Rattle.integers.proofs.whole.first_place_squared.Goals as goal
@@ -8,15 +7,6 @@ use Rattle.integers.proofs.whole.first_place_squared.Goals as goal
 pub returns-then-k-eq0 : goal.returns-then-k-eq0
 unfolding place_squared
 returns-then-k-eq0 c = sym (ap place_squared c.if-k-eq0.true)
-
-pub overflow_mul-result : goal.overflow_mul-result
-overflow_mul-result c = record { fits = omega (arith, c.requires) }
-
-pub overflow_sub-result : goal.overflow_sub-result
-overflow_sub-result c = omega (arith, c.if-k-eq0.false)
-
-pub overflow_shl-result : goal.overflow_shl-result
-overflow_shl-result c = omega (arith, c.requires)
 
 pub returns : goal.returns
 returns c = place-shifted c.args.k c.requires c.if-k-eq0.false

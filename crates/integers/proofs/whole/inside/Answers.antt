@@ -8,4 +8,4 @@ use Rattle.integers.proofs.whole.inside.Goals as goal
 
 pub returns : goal.returns
 unfolding inside
-returns c = ap (λ m. leb m c.args.n) (c.size-m.ensures ∙ ap nat_abs (to_z-of_z c.ranges.a))
+returns c = ap (λ m. leb m c.args.n) (c.size.ensures ∙ ap nat_abs (to_z-of_z c.ranges.a))

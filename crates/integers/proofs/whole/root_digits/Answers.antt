@@ -1,11 +1,7 @@
 -- `whole::root_digits` meets its contract: 32 less half of the count of leading zeros. Assumes nothing.
 use native.Mathlib.Omega.{arith}
-use lib.Count.{leading_le}
 use Rattle.integers.proofs.RootSteps.{leading-digits}
 use Rattle.integers.proofs.whole.root_digits.Goals as goal
-
-pub overflow_sub-result : goal.overflow_sub-result
-overflow_sub-result c = omega (arith, leading_le 64 c.args.n)
 
 pub returns : goal.returns
 returns c = record { digits = leading-digits c.args.n (omega (arith, c.ranges.n.fits)); few = omega arith }

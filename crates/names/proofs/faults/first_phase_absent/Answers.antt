@@ -1,9 +1,9 @@
 -- `faults::first_phase_absent` meets its contract: the branches' line, or else the loads'. Assumes nothing.
+use Rattle.std.specs.Prelude.{Option, ℕ}
 use mathlib.Core.Path.{◌∙◌, ap, sym}
 use Prim.Native.Nat.{◌+◌}
 use native.Mathlib.Omega.{arith}
 use lib.ListN.{take}
-use Rattle.answers.specs.declared.Found.{Found}
 use Rattle.arrays.specs.Arrays.{branches_of, loads_of}
 use Rattle.feeder.specs.Feeder.{first_row, or_else}
 use Rattle.feeder.specs.NetworkLaws.{length-kept}
@@ -11,21 +11,21 @@ use Rattle.names.specs.Numbered.{load_absent}
 use Rattle.names.specs.NumberedLaws.{none-past, phase-absent}
 use Rattle.names.proofs.faults.first_phase_absent.Goals as goal
 
-pub returns-in-At : goal.returns-in-At
+pub returns-in-Some : goal.returns-in-Some
 unfolding or_else
-returns-in-At c = λ r e n f m.
+returns-in-Some c = λ r e n f m.
     let a = c.args in
     let bs = branches_of a.branches.now in
     let ls = loads_of a.loads.now in
-    sym (ap (λ (x : Found). or_else x (first_row (load_absent bs) (a.count + 6) 1 (take a.total ls))) (sym (c.first_branch_absent-found.ensures (rw (e, length-kept))) ∙ c.in-At.is))
+    sym (ap (λ (x : Option ℕ). or_else x (first_row (load_absent bs) (a.count + 6) 1 (take a.total ls))) (sym (c.first_branch_absent.ensures (rw (e, length-kept))) ∙ c.in-Some.is))
     ∙ phase-absent r a.count n (omega arith) a.total m (omega arith) bs ls e f
 
-pub returns-in-Nothing : goal.returns-in-Nothing
+pub returns-in-None : goal.returns-in-None
 unfolding or_else
-returns-in-Nothing c = λ r e n f m.
+returns-in-None c = λ r e n f m.
     let a = c.args in
     let bs = branches_of a.branches.now in
     let ls = loads_of a.loads.now in
     c.first_load_absent.ensures (rw (f, length-kept)) (λ k h. rw e (none-past r a.count n (omega arith) k h))
-    ∙ sym (ap (λ (x : Found). or_else x (first_row (load_absent bs) (a.count + 6) 1 (take a.total ls))) (sym (c.first_branch_absent-found.ensures (rw (e, length-kept))) ∙ c.in-Nothing.is))
+    ∙ sym (ap (λ (x : Option ℕ). or_else x (first_row (load_absent bs) (a.count + 6) 1 (take a.total ls))) (sym (c.first_branch_absent.ensures (rw (e, length-kept))) ∙ c.in-None.is))
     ∙ phase-absent r a.count n (omega arith) a.total m (omega arith) bs ls e f

@@ -1,6 +1,6 @@
 -- `faults::first_second_to` meets its contract: what the definition gives at the first row it gives at row k. Assumes nothing.
 use mathlib.Core.Path.{◌≡◌}
-use Prim.Native.Nat.{◌+◌, ◌-◌, ◌<◌, ◌≤◌}
+use Prim.Native.Nat.{◌+◌}
 use lib.ListN.{length, take}
 use Rattle.feeder.specs.Feeder.{first_row, second_to}
 use Rattle.feeder.specs.Layout.{Rows}
@@ -10,8 +10,4 @@ use Rattle.names.proofs.faults.first_second_to.Given as goal
 
 abbrev pub invariant-loop-k : goal.invariant-loop-k
 invariant-loop-k l =
-    (0 < l.k) × (l.k ≤ l.count + 1)
-    × ((r : Rows) → l.nodes ≡ nodes_in r → l.count ≡ length r.branches → first_row (to_second (take (l.count + 1) l.nodes)) 4 l.k (rest l.k (l.count + 1) l.nodes) ≡ second_to r)
-
-abbrev pub decreases-loop-k : goal.decreases-loop-k
-decreases-loop-k l = (l.count + 1) - l.k
+    ((r : Rows) → l.nodes ≡ nodes_in r → l.count ≡ length r.branches → first_row (to_second (take (l.count + 1) l.nodes)) 4 l.k (rest l.k (l.count + 1) l.nodes) ≡ second_to r)

@@ -18,7 +18,7 @@ long : (c : Start) (r : Rows) → branches_of c.args.branches.now ≡ branches_i
 long c r e = rw (e, length-kept) (omega arith)
 
 pub loop-k-init : goal.loop-k-init
-loop-k-init c = (omega arith, omega arith, λ r e n. unknown-from r c.args.count n (omega arith) (branches_of c.args.branches.now) e)
+loop-k-init c = λ r e n. unknown-from r c.args.count n (omega arith) (branches_of c.args.branches.now) e
 
 pub returns-then-count-from : goal.returns-then-count-from
 unfolding from_unknown
@@ -26,22 +26,19 @@ returns-then-count-from c = λ r e n.
     let a = c.args in
     let k = c.loop-k.k in
     sym (first-here (from_unknown a.count) 4 k no_branch (branches_of a.branches.now) (a.count + 1) k (long (goal.at.returns-then-count-from c).Start r e) (omega arith) (lt-ltb a.count (get_or (branches_of a.branches.now) k no_branch).from (omega arith)))
-    ∙ c.loop-k.invariant.2 r e n
+    ∙ c.loop-k.invariant r e n
 
 pub loop-k-preserved : goal.loop-k-preserved
 unfolding from_unknown
 loop-k-preserved c =
     let a = c.args in
-    let k = c.loop-k.k in (
-      omega arith,
-      omega arith,
-      λ r e n. sym (first_next (from_unknown a.count) 4 k no_branch (branches_of a.branches.now) (a.count + 1) k (long (goal.at.loop-k-preserved c).Start r e) (omega arith) (le-ltb a.count (get_or (branches_of a.branches.now) k no_branch).from (omega arith)))
-          ∙ c.loop-k.invariant.2 r e n,
-    )
+    let k = c.loop-k.k in
+    λ r e n. sym (first_next (from_unknown a.count) 4 k no_branch (branches_of a.branches.now) (a.count + 1) k (long (goal.at.loop-k-preserved c).Start r e) (omega arith) (le-ltb a.count (get_or (branches_of a.branches.now) k no_branch).from (omega arith)))
+    ∙ c.loop-k.invariant r e n
 
 pub returns : goal.returns
 returns c = λ r e n.
     let a = c.args in
     let k = c.loop-k.k in
     sym (first-end (from_unknown a.count) 4 k no_branch (branches_of a.branches.now) (a.count + 1) k (long (goal.at.returns c).Start r e) (omega arith))
-    ∙ c.loop-k.invariant.2 r e n
+    ∙ c.loop-k.invariant r e n

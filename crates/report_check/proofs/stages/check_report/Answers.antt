@@ -1,7 +1,8 @@
 -- `stages::check_report` meets its contract: 51, 52, then 30 to 32. Assumes nothing.
+use Rattle.std.specs.Prelude.{Ok}
 use mathlib.Core.Bool.{true}
-use mathlib.Core.Path.{◌∙◌, ◌≡◌, ap, refl, sym}
-use Rattle.answers.specs.Answers.{done, good}
+use mathlib.Core.Path.{◌∙◌, ◌≡◌, refl, sym}
+use Rattle.answers.specs.Answers.{done}
 use Rattle.answers.specs.declared.Refusal.TheVariants.{NameDiffers, SourceDiffers}
 use Rattle.arrays.specs.Arrays.{network_of}
 use Rattle.feeder.specs.Feeder.{Feeder, row_count}
@@ -9,7 +10,6 @@ use Rattle.feeder.specs.Network.{Held}
 use Rattle.feeder.specs.declared.Network.{Network}
 use Rattle.report.specs.Report.{Reported}
 use Rattle.compare.specs.Differences.{name_differs, source_differs}
-use Rattle.verdicts.specs.Check.{verdict_of}
 use Rattle.verdicts.specs.CheckChain.{compared_is, from30, from51, from52}
 use Rattle.report_check.specs.CheckStages.{fails-at, goes_on}
 use Rattle.report_check.specs.InHand.{comparable, parents-in}
@@ -23,7 +23,7 @@ network s = let a = s.args in network_of a.settings a.nodes.now a.branches.now a
 
 -- its report
 abbrev report : Start → ReportRead
-report s = let a = s.args in report_read true a.node_names.now a.voltages.now a.from_names.now a.to_names.now a.currents.now a.losses.now a.totals.now a.tap_names.now
+report s = report_read true s.args.read.now
 
 -- 51
 named-is : (c : After-first_name_differs-named) (f : Feeder) (x : Reported) → Held f (network (goal.at.After-first_name_differs-named c).Start) → ReportHeld (row_count f) x (report (goal.at.After-first_name_differs-named c).Start) → c.first_name_differs-named.result ≡ name_differs f x
@@ -39,18 +39,18 @@ first_name_differs-named-requires c =
     let k = c.requires.known in
     record { rows_bound = k.arranged.linked.few; by_index = parents-in k }
 
-pub returns-in-At : goal.returns-in-At
+pub returns-in-Some : goal.returns-in-Some
 unfolding from51
-returns-in-At c = λ f x h w. fails-at NameDiffers (from52 (good done) f x) (sym (named-is (goal.at.returns-in-At c).After-first_name_differs-named f x h w) ∙ c.in-At.is) ∙ ap verdict_of (sym (compared_is f x))
+returns-in-Some c = λ f x h w. fails-at NameDiffers (from52 (Ok done) f x) (sym (named-is (goal.at.returns-in-Some c).After-first_name_differs-named f x h w) ∙ c.in-Some.is) ∙ sym (compared_is f x)
 
 pub first_source_differs-differs-requires : goal.first_source_differs-differs-requires
 first_source_differs-differs-requires c = c.requires.known.arranged.linked.few
 
-pub returns-in-At-differs : goal.returns-in-At-differs
+pub returns-in-Some-differs : goal.returns-in-Some-differs
 unfolding from51 from52
-returns-in-At-differs c = λ f x h w.
-    goes_on NameDiffers (from52 (good done) f x) (sym (named-is (goal.at.returns-in-At-differs c).After-first_name_differs-named f x h w) ∙ c.in_default.is)
-    (fails-at SourceDiffers (from30 (good done) f x) (sym (source_is (goal.at.returns-in-At-differs c).After-first_source_differs-differs f x h w) ∙ c.in-At-differs.is)) ∙ ap verdict_of (sym (compared_is f x))
+returns-in-Some-differs c = λ f x h w.
+    goes_on NameDiffers (from52 (Ok done) f x) (sym (named-is (goal.at.returns-in-Some-differs c).After-first_name_differs-named f x h w) ∙ c.in_default.is)
+    (fails-at SourceDiffers (from30 (Ok done) f x) (sym (source_is (goal.at.returns-in-Some-differs c).After-first_source_differs-differs f x h w) ∙ c.in-Some-differs.is)) ∙ sym (compared_is f x)
 
 pub check_work-requires : goal.check_work-requires
 check_work-requires c =
@@ -60,6 +60,6 @@ check_work-requires c =
 pub returns : goal.returns
 unfolding from51 from52
 returns c = λ f x h w.
-    goes_on NameDiffers (from52 (good done) f x) (sym (named-is (goal.at.returns c).After-first_name_differs-named f x h w) ∙ c.in_default.is)
-    (goes_on SourceDiffers (from30 (good done) f x) (sym (source_is (goal.at.returns c).After-first_source_differs-differs f x h w) ∙ c.in_default-differs.is)
-    (c.check_work.ensures f x (report (goal.at.returns c).Start) (record { voltages-are = refl; currents-are = refl; totalled = record { losses-are = refl; totals-are = refl } }) h w)) ∙ ap verdict_of (sym (compared_is f x))
+    goes_on NameDiffers (from52 (Ok done) f x) (sym (named-is (goal.at.returns c).After-first_name_differs-named f x h w) ∙ c.in_default.is)
+    (goes_on SourceDiffers (from30 (Ok done) f x) (sym (source_is (goal.at.returns c).After-first_source_differs-differs f x h w) ∙ c.in_default-differs.is)
+    (c.check_work.ensures f x h w)) ∙ sym (compared_is f x)

@@ -1,7 +1,7 @@
 -- `stages::check_text` meets its contract: 50, then 51. Assumes nothing.
 use mathlib.Core.Bool.{Bool, true}
 use mathlib.Core.List.{List}
-use mathlib.Core.Path.{◌≡◌, refl}
+use mathlib.Core.Path.{◌≡◌}
 use Prim.Native.Nat.{ℕ}
 use native.Mathlib.Omega.{arith}
 use lib.IntN.{ℤ}
@@ -13,6 +13,7 @@ use Rattle.feeder.specs.declared.Network.{Network}
 use Rattle.report.specs.Report.{Reported, report_of}
 use Rattle.report.proofs.ReportTaps.{reported-within}
 use Rattle.report_check.specs.CheckStages.{ReportFound, goes50, refused50, report-read, report-refused}
+use Rattle.report_reader.specs.ReportLaws.{unread}
 use Rattle.report_reader.specs.Read.{FeederShown, ReportIs, ReportRead, TapsHeld, report_read}
 use Rattle.report_check.proofs.stages.check_text.Goals as goal
 use Rattle.report_check.proofs.stages.check_text.Goals.{After-read_report, Start}
@@ -26,12 +27,10 @@ start q = (goal.at.After-read_report q).Start
 
 -- the arrays that the report is read into
 abbrev arrays : After-read_report → Bool → ReportRead
-arrays q ok =
-    let l = q.read_report.new in
-    report_read ok l.node_names l.voltages l.from_names l.to_names l.currents l.losses l.totals l.tap_names
+arrays q ok = report_read ok q.read_report.new.read
 
 abbrev taps : After-read_report → List (List ℤ)
-taps q = q.read_report.new.taps
+taps q = q.read_report.new.read.taps
 
 -- the feeder is lent to the reader
 shown : (q : After-read_report) (f : Feeder) → Held f (network (start q)) → let a = (start q).args in FeederShown f a.nodes.now a.branches.now a.settings.rows a.settings.limit
@@ -54,7 +53,7 @@ taps-there q e f h = q.read_report.ensures.taps f (there q e f h).report (shown 
 pub read_report-requires : goal.read_report-requires
 read_report-requires c =
     let k = c.requires in
-    record { rows_bound = k.arranged.linked.few; limit_bound = omega (arith, k.held.limit, k.fit.few-sweeps); node_names_value = refl; voltages_value = refl; from_names_value = refl; to_names_value = refl; currents_value = refl; losses_value = refl; tap_names_value = refl; taps_value = refl }
+    record { rows_bound = k.arranged.linked.few; limit_bound = omega (arith, k.held.limit, k.fit.few-sweeps); unread = unread c.empty-read.ensures }
 
 pub returns-then-not-read_report : goal.returns-then-not-read_report
 returns-then-not-read_report c = λ f h.

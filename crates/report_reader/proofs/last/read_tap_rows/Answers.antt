@@ -7,7 +7,7 @@ use native.Mathlib.Omega.{arith}
 use lib.ListN.{drop, length}
 use borrow.Author.Rules.{rules}
 use Rattle.report.specs.Report.{tap_table}
-use Rattle.report_tables.specs.AnswerLaws.{refused-answer}
+use Rattle.tap_table.specs.AnswerLaws.{stands-refused}
 use Rattle.tap_table.specs.TapTable.{TapsAre, taps_of}
 use Rattle.text.specs.LineLaws.{begins-within}
 use Rattle.text.specs.Text.{begins, bytes}
@@ -28,7 +28,7 @@ pub returns-then-at-part : goal.returns-then-at-part
 returns-then-at-part c = λ f limit h. taps-own f _ _ _ limit h _ _ _ _ _ c.if-at-part.true c.own_taps.ensures.level c.own_taps.ensures.held
 
 pub returns-then-not-stands_empty : goal.returns-then-not-stands_empty
-returns-then-not-stands_empty c = λ f limit h. refused-answer (taps-no-line f _ _ _ limit h _ _ c.if-at-part.false (sym c.stands_empty.ensures ∙ c.if-not-stands_empty.true)) refl
+returns-then-not-stands_empty c = λ f limit h. stands-refused (taps-no-line f _ _ _ limit h _ _ c.if-at-part.false (sym c.stands_empty.ensures ∙ c.if-not-stands_empty.true)) refl
 
 pub overflow_add-p : goal.overflow_add-p
 overflow_add-p c = let h = room (goal.at.overflow_add-p c).Else-not-stands_empty in search rules

@@ -1,22 +1,21 @@
 -- `report_tables::rows::read_rows` meets its contract: at each turn the arrays hold the rows read so far, and the rows that are left are behind them. Assumes nothing.
 use mathlib.Core.Path.{refl}
 use native.Mathlib.Omega.{arith}
-use borrow.Author.Tests.{not-false, not-true}
-use Rattle.report_tables.specs.AnswerLaws.{held-answer, refused-answer}
+use Rattle.std.proofs.lemmas.Option.{MatchOption-at_none, MatchOption-at_some}
 use Rattle.report_tables.specs.TableLaws.{going_end, going_next, going_start, going-stop}
 use Rattle.report_tables.proofs.rows.read_rows.Goals as goal
+use Rattle.report_tables.proofs.rows.read_rows.Goals.{else-t, then-t}
 
 pub loop-k-init : goal.loop-k-init
-loop-k-init c = going_start _ _ _ _ _ _ _ _ _ _ c.requires.empty c.unused_count-k.ensures refl (omega (arith, c.unused_count-k.ensures, c.requires.count_bound)) c.requires.from_in_bounds
+loop-k-init c = going_start _ _ _ _ _ _ _ _ _ _ c.requires.empty c.unused_count-start.ensures refl (omega (arith, c.unused_count-start.ensures, c.requires.count_bound)) c.requires.from_in_bounds
 
-pub returns-then-not-row : goal.returns-then-not-row
-returns-then-not-row c = refused-answer (going-stop _ _ _ _ _ _ _ c.loop-k.invariant c.loop-k-test.true (c.read_row-row.ensures.refusal (not-true _ c.if-not-row.true))) refl
-
-pub loop-k-smaller : goal.loop-k-smaller
-loop-k-smaller c = omega (arith, c.loop-k-test.true)
+pub returns-in_err-row : goal.returns-in_err-row
+returns-in_err-row c = rw c.from_residual.ensures (going-stop _ _ _ _ _ _ _ c.loop-k.invariant c.loop-k-test.true (MatchOption-at_none _ _ c.in_err-row.was c.read_row.ensures))
 
 pub loop-k-preserved : goal.loop-k-preserved
-loop-k-preserved c = going_next _ _ _ _ _ _ _ c.loop-k.invariant _ _ _ _ c.loop-k-test.true (c.read_row-row.ensures.held (not-false _ c.if-not-row.false)) c.put_three.ensures c.put_pair.ensures c.both.ensures
+loop-k-preserved c =
+    going_next _ _ _ _ _ _ _ c.loop-k.invariant _ _ _ _ _ c.loop-k-test.true (MatchOption-at_some _ _ _ c.in_ok-row.was c.read_row.ensures) c.put_three.ensures c.put_pair.ensures
+    (elim c.if-t.branch [ then-t w ↦ rw (w.if-t.true, w.inside-is) refl | else-t w ↦ rw (w.inside-is, w.if-t.false) refl ])
 
 pub returns : goal.returns
-returns c = held-answer (going_end _ _ _ _ _ _ _ c.loop-k.invariant c.loop-k-test.false) c.loop-k.invariant.ok
+returns c = going_end _ _ _ _ _ _ _ c.loop-k.invariant c.loop-k-test.false

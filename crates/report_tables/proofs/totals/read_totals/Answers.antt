@@ -1,11 +1,10 @@
 -- `report_tables::totals::read_totals` meets its contract: the line of names, and the row. Assumes nothing.
 use mathlib.Core.Bool.{true}
-use mathlib.Core.Path.{◌∙◌, ◌≡◌, refl, sym}
+use mathlib.Core.Path.{◌∙◌, ◌≡◌, sym}
 use borrow.Author.Rules.{rules}
 use native.Mathlib.Omega.{arith}
 use Rattle.answers.specs.declared.Refusal.TheVariants.{ReportLayout}
 use Rattle.text.specs.Text.{begins, bytes}
-use Rattle.report_tables.specs.AnswerLaws.{held-answer, refused-answer}
 use Rattle.report_tables.specs.TotalsLaws.{last-bad, last-no-names, last-whole}
 use Rattle.report_tables.proofs.totals.read_totals.Goals as goal
 use Rattle.report_tables.proofs.totals.read_totals.Goals.{Else-not-stands}
@@ -17,10 +16,10 @@ names c = sym c.stands.ensures ∙ c.if-not-stands.false
 
 pub returns-then-not-stands : goal.returns-then-not-stands
 unfolding bytes
-returns-then-not-stands c = refused-answer (last-no-names _ (sym c.stands.ensures ∙ c.if-not-stands.true)) refl
+returns-then-not-stands c = last-no-names _ (sym c.stands.ensures ∙ c.if-not-stands.true)
 
-pub returns-in_default : goal.returns-in_default
-returns-in_default c = refused-answer (last-bad _ _ _ (names (goal.at.returns-in_default c).Else-not-stands) (c.read_numbers.ensures.value ReportLayout) c.in_default.is) refl
+pub returns-in_err-next : goal.returns-in_err-next
+returns-in_err-next c = rw c.from_residual.ensures (last-bad _ _ _ (names (goal.at.returns-in_err-next c).Else-not-stands) (c.read_numbers.ensures.value ReportLayout) c.in_err-next.was)
 
 pub returns : goal.returns
-returns c = held-answer (record { whole = last-whole _ _ _ (names (goal.at.returns c).Else-not-stands) (c.read_numbers.ensures.value ReportLayout) _ c.in-Behind.is; seven = search rules; within = (c.read_numbers.ensures.past _ c.in-Behind.is (omega arith)).1 }) refl
+returns c = record { whole = last-whole _ _ _ (names (goal.at.returns c).Else-not-stands) (c.read_numbers.ensures.value ReportLayout) _ c.in_ok-next.was; seven = search rules; within = (c.read_numbers.ensures.past _ c.in_ok-next.was (omega arith)).1 }

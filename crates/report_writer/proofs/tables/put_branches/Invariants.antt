@@ -1,5 +1,4 @@
 -- `report_writer::tables::put_branches` meets its contract: at each turn the lines of the rows that are left, and the empty line, are due. Assumes nothing.
-use Prim.Native.Nat.{◌+◌, ◌-◌}
 use Rattle.arrays.specs.Arrays.{branches_of, pairs_of, threes_of}
 use Rattle.report_writer.specs.Tables.{branch_line_at}
 use Rattle.report_writer.specs.Writing.{Writing, empty_line}
@@ -7,6 +6,3 @@ use Rattle.report_writer.proofs.tables.put_branches.Given as goal
 
 abbrev pub invariant-loop-row : goal.invariant-loop-row
 invariant-loop-row l = Writing (branch_line_at l.nodes (branches_of l.branches) (threes_of l.i) (pairs_of l.losses)) empty_line l.rows 1 l.initial.out l.initial.at l.out l.at l.row
-
-abbrev pub decreases-loop-row : goal.decreases-loop-row
-decreases-loop-row l = l.rows + 1 - l.row

@@ -20,7 +20,7 @@ line_of c = let a = c.args in branch_line_at a.nodes.now (branches_of a.branches
 -- the from-node of a row has a name
 from : (c : After-from_at-from) → c.from_at-from.result < 201
 from c =
-    rw c.from_at-from.ensures (c.requires.linked c.loop-row.row c.loop-row.invariant.0 c.loop-row-test.true)
+    rw c.from_at-from.ensures (c.requires.linked c.loop-row.row (omega arith) (omega arith))
 
 -- the width of a turn's line, and the most that it can be
 width_is : (c : After-branch_width-width) → c.branch_width-width.result ≡ length (line_of (goal.at.After-branch_width-width c).Start c.loop-row.row)
@@ -35,7 +35,7 @@ width-most c =
     omega (arith, width_is c, branch_fits (get_or a.nodes.now (from_in (branches_of a.branches.now) k) 0) (get_or a.nodes.now k 0) (get_or (threes_of a.i.now) k zero3) (get_or (pairs_of a.losses.now) k 0c))
 
 pub loop-row-init : goal.loop-row-init
-loop-row-init c = (omega arith, omega arith, refl, omega arith)
+loop-row-init c = record { whole = refl; size = omega arith }
 
 pub offset_bounds-nodes-from : goal.offset_bounds-nodes-from
 offset_bounds-nodes-from c = omega (arith, from c)
@@ -48,9 +48,9 @@ overflow_add-width c = omega (arith, width-most c)
 
 pub loop-row-preserved : goal.loop-row-preserved
 loop-row-preserved c =
-    let n = lines-longer (line_of (goal.at.loop-row-preserved c).Start) c.loop-row.row c.args.rows c.loop-row-test.true in
-    (omega arith, omega arith, omega (arith, width_is c), omega (arith, width-most c))
+    let n = lines-longer (line_of (goal.at.loop-row-preserved c).Start) c.loop-row.row c.args.rows (omega arith) in
+    record { whole = omega (arith, width_is c); size = omega (arith, width-most c) }
 
 pub returns : goal.returns
 returns c =
-    record { value = omega (arith, lines-over (line_of (goal.at.returns c).Start) c.loop-row.row c.args.rows c.loop-row-test.false, branch-table-length (line_of (goal.at.returns c).Start) c.args.rows); size = omega arith }
+    record { value = omega (arith, lines-over (line_of (goal.at.returns c).Start) c.loop-row.row c.args.rows (omega arith), branch-table-length (line_of (goal.at.returns c).Start) c.args.rows); size = omega arith }

@@ -1,6 +1,6 @@
 -- `report_writer::widths::branches_width` meets its contract: at each turn the width so far and that of the lines that are left make up the whole. Assumes nothing.
 use mathlib.Core.Path.{◌≡◌}
-use Prim.Native.Nat.{◌*◌, ◌+◌, ◌-◌, ◌≤◌}
+use Prim.Native.Nat.{◌*◌, ◌+◌, ◌≤◌}
 use lib.ListN.{length}
 use Rattle.arrays.specs.Arrays.{branches_of, pairs_of, threes_of}
 use Rattle.report_writer.specs.Tables.{branch_line_at, lines_from}
@@ -9,7 +9,4 @@ use Rattle.report_writer.proofs.widths.branches_width.Given as goal
 abbrev pub invariant-loop-row : goal.invariant-loop-row
 invariant-loop-row l =
     let g = branch_line_at l.nodes (branches_of l.branches) (threes_of l.i) (pairs_of l.losses) in
-    (1 ≤ l.row) × (l.row ≤ l.rows + 1) × (l.width + length (lines_from g l.row l.rows) ≡ 59 + length (lines_from g 1 l.rows)) × (l.width ≤ 59 + 194 * l.row)
-
-abbrev pub decreases-loop-row : goal.decreases-loop-row
-decreases-loop-row l = l.rows + 1 - l.row
+    record { whole : l.width + length (lines_from g l.row l.rows) ≡ 59 + length (lines_from g 1 l.rows); size : l.width ≤ 59 + 194 * l.row }

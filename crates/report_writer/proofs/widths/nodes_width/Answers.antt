@@ -29,16 +29,16 @@ width-most c =
     omega (arith, width_is c, node-fits (get_or a.nodes.now k 0) (get_or (threes_of a.v.now) k zero3))
 
 pub loop-k-init : goal.loop-k-init
-loop-k-init c = (omega arith, refl, omega arith)
+loop-k-init c = record { whole = refl; size = omega arith }
 
 pub overflow_add-width : goal.overflow_add-width
 overflow_add-width c = omega (arith, width-most c)
 
 pub loop-k-preserved : goal.loop-k-preserved
 loop-k-preserved c =
-    let l = lines-longer (line_of (goal.at.loop-k-preserved c).Start) c.loop-k.k c.args.rows c.loop-k-test.true in
-    (omega arith, omega (arith, width_is c), omega (arith, width-most c))
+    let l = lines-longer (line_of (goal.at.loop-k-preserved c).Start) c.loop-k.k c.args.rows (omega arith) in
+    record { whole = omega (arith, width_is c); size = omega (arith, width-most c) }
 
 pub returns : goal.returns
 returns c =
-    record { value = omega (arith, lines-over (line_of (goal.at.returns c).Start) c.loop-k.k c.args.rows c.loop-k-test.false, node-table-length (line_of (goal.at.returns c).Start) c.args.rows); size = omega arith }
+    record { value = omega (arith, lines-over (line_of (goal.at.returns c).Start) c.loop-k.k c.args.rows (omega arith), node-table-length (line_of (goal.at.returns c).Start) c.args.rows); size = omega arith }

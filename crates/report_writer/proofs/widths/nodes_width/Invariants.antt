@@ -1,6 +1,6 @@
 -- `report_writer::widths::nodes_width` meets its contract: at each turn the width so far and that of the lines that are left make up the whole. Assumes nothing.
 use mathlib.Core.Path.{◌≡◌}
-use Prim.Native.Nat.{◌*◌, ◌+◌, ◌-◌, ◌≤◌}
+use Prim.Native.Nat.{◌*◌, ◌+◌, ◌≤◌}
 use lib.ListN.{length}
 use Rattle.arrays.specs.Arrays.{threes_of}
 use Rattle.report_writer.specs.Tables.{lines_from, node_line_at}
@@ -9,7 +9,4 @@ use Rattle.report_writer.proofs.widths.nodes_width.Given as goal
 abbrev pub invariant-loop-k : goal.invariant-loop-k
 invariant-loop-k l =
     let g = node_line_at l.nodes (threes_of l.v) in
-    (l.k ≤ l.rows + 1) × (l.width + length (lines_from g l.k l.rows) ≡ 42 + length (lines_from g 0 l.rows)) × (l.width ≤ 42 + 141 * l.k)
-
-abbrev pub decreases-loop-k : goal.decreases-loop-k
-decreases-loop-k l = l.rows + 1 - l.k
+    record { whole : l.width + length (lines_from g l.k l.rows) ≡ 42 + length (lines_from g 0 l.rows); size : l.width ≤ 42 + 141 * l.k }

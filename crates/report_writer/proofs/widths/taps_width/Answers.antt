@@ -18,16 +18,16 @@ width-most : (c : After-tap_line_width-width) → c.tap_line_width-width.result 
 width-most c = let a = c.args in rw c.tap_line_width-width.ensures (tap-line-fits a.nodes.now (branches_of a.branches.now) c.loop-k.k)
 
 pub loop-k-init : goal.loop-k-init
-loop-k-init c = (omega arith, omega arith, refl, omega arith)
+loop-k-init c = record { whole = refl; size = omega arith }
 
 pub overflow_add-width : goal.overflow_add-width
 overflow_add-width c = omega (arith, width-most c)
 
 pub loop-k-preserved : goal.loop-k-preserved
 loop-k-preserved c =
-    let n = lines-longer (line_of (goal.at.loop-k-preserved c).Start) c.loop-k.k c.args.rows c.loop-k-test.true in
-    (omega arith, omega arith, omega (arith, c.tap_line_width-width.ensures), omega (arith, width-most c))
+    let n = lines-longer (line_of (goal.at.loop-k-preserved c).Start) c.loop-k.k c.args.rows (omega arith) in
+    record { whole = omega (arith, c.tap_line_width-width.ensures); size = omega (arith, width-most c) }
 
 pub returns : goal.returns
 returns c =
-    record { value = omega (arith, lines-over (line_of (goal.at.returns c).Start) c.loop-k.k c.args.rows c.loop-k-test.false, tap-table-length (line_of (goal.at.returns c).Start) c.args.rows); size = omega arith }
+    record { value = omega (arith, lines-over (line_of (goal.at.returns c).Start) c.loop-k.k c.args.rows (omega arith), tap-table-length (line_of (goal.at.returns c).Start) c.args.rows); size = omega arith }

@@ -1,6 +1,6 @@
 -- `report_writer::widths::taps_width` meets its contract: at each turn the width so far and that of the lines that are left make up the whole. Assumes nothing.
 use mathlib.Core.Path.{◌≡◌}
-use Prim.Native.Nat.{◌*◌, ◌+◌, ◌-◌, ◌≤◌}
+use Prim.Native.Nat.{◌*◌, ◌+◌, ◌≤◌}
 use lib.ListN.{length}
 use Rattle.arrays.specs.Arrays.{branches_of}
 use Rattle.report_writer.specs.Tables.{lines_from, tap_line_at}
@@ -9,7 +9,4 @@ use Rattle.report_writer.proofs.widths.taps_width.Given as goal
 abbrev pub invariant-loop-k : goal.invariant-loop-k
 invariant-loop-k l =
     let g = tap_line_at l.nodes (branches_of l.branches) in
-    (1 ≤ l.k) × (l.k ≤ l.rows + 1) × (l.width + length (lines_from g l.k l.rows) ≡ 21 + length (lines_from g 1 l.rows)) × (l.width ≤ 21 + 75 * l.k)
-
-abbrev pub decreases-loop-k : goal.decreases-loop-k
-decreases-loop-k l = l.rows + 1 - l.k
+    record { whole : l.width + length (lines_from g l.k l.rows) ≡ 21 + length (lines_from g 1 l.rows); size : l.width ≤ 21 + 75 * l.k }

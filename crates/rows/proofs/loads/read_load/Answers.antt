@@ -1,52 +1,41 @@
 -- `rows::loads::read_load` meets its contract: field by field, what was read is what the definition reads. Assumes nothing.
-use native.Mathlib.Omega.{arith}
-use mathlib.Core.Path.{◌≡◌, refl, sym}
-use Prim.Native.Nat.{◌<◌, ◌≤◌}
-use lib.ListN.{length}
-use Rattle.text.specs.Lines.{names, row}
-use Rattle.text.specs.Text.{name_at}
-use Rattle.text.specs.declared.Word.TheVariants.{Name}
+use Rattle.std.specs.Prelude.{refl}
+use Rattle.std.proofs.Common.{sym}
+use Rattle.arrays.specs.Arrays.{load_numbers}
+use Rattle.text.specs.Lines.{names, nth, row}
 use Rattle.feeder.specs.Layout.{load_row}
-use Rattle.rows.specs.RowReadLaws.{load-is-as, no-load-end, no-load-is}
 use Rattle.rows.proofs.loads.read_load.Goals as goal
-use Rattle.rows.proofs.loads.read_load.Goals.{In-Name, In-Name-read_name, In-Name-read_name-2}
 
--- each name that was read, as the definition has it
-name1 : (c : In-Name) → let a = c.args in name_at 44 a.s.now a.at ≡ Name c.in-Name.node c.in-Name.a
-name1 c = sym c.in-Name.ensures.value
-
-name2 : (c : In-Name-read_name) → let a = c.args in name_at 44 a.s.now c.in-Name.a ≡ Name c.in-Name-read_name.phase c.in-Name-read_name.b
-name2 c = sym c.in-Name-read_name.ensures.value
-
-name3 : (c : In-Name-read_name-2) → let a = c.args in name_at 44 a.s.now c.in-Name-read_name.b ≡ Name c.in-Name-read_name-2.kind c.in-Name-read_name-2.c
-name3 c = sym c.in-Name-read_name-2.ensures.value
-
--- where each name ends
-past1 : (c : In-Name) → let a = c.args in let p = c.in-Name.a in (a.at < p) × (p ≤ length a.s.now)
-past1 c = c.in-Name.ensures.past _ _ refl
-
-past2 : (c : In-Name-read_name) → let a = c.args in let p = c.in-Name-read_name.b in (a.at < p) × (p ≤ length a.s.now)
-past2 c = let h = past1 (goal.at.In-Name-read_name c).In-Name in let k = c.in-Name-read_name.ensures.past _ _ refl in (omega arith, k.1)
-
-past3 : (c : In-Name-read_name-2) → let a = c.args in let p = c.in-Name-read_name-2.c in (a.at < p) × (p ≤ length a.s.now)
-past3 c = let h = past2 (goal.at.In-Name-read_name-2 c).In-Name-read_name in let k = c.in-Name-read_name-2.ensures.past _ _ refl in (omega arith, k.1)
-
-pub returns-in_default : goal.returns-in_default
+pub returns-in_err-node-clause-value : goal.returns-in_err-node-clause-value
 unfolding load_row row names
-returns-in_default c = record { value = no-load-is _ _ c.no_load.ensures (λ r. simp (sym c.in_default.ensures.value)); past = (λ n e. no-load-end _ n c.no_load.ensures e) }
+returns-in_err-node-clause-value c = rw c.from_residual.ensures (λ r. simp (sym c.in_err-node.ensures.value))
 
-pub returns-in_default-read_name : goal.returns-in_default-read_name
+pub returns-in_err-phase-clause-value : goal.returns-in_err-phase-clause-value
 unfolding load_row row names
-returns-in_default-read_name c = record { value = no-load-is _ _ c.no_load-in_default-read_name.ensures (λ r. simp (name1 (goal.at.returns-in_default-read_name c).In-Name, sym c.in_default-read_name.ensures.value)); past = (λ n e. no-load-end _ n c.no_load-in_default-read_name.ensures e) }
+returns-in_err-phase-clause-value c = rw c.from_residual-in_err-phase.ensures (λ r. simp (sym c.in_ok-node.ensures.value, sym c.in_err-phase.ensures.value))
 
-pub returns-in_default-read_name-2 : goal.returns-in_default-read_name-2
+pub returns-in_err-kind-clause-value : goal.returns-in_err-kind-clause-value
 unfolding load_row row names
-returns-in_default-read_name-2 c = record { value = no-load-is _ _ c.no_load-in_default-read_name-2.ensures (λ r. simp (name1 (goal.at.returns-in_default-read_name-2 c).In-Name, name2 (goal.at.returns-in_default-read_name-2 c).In-Name-read_name, sym c.in_default-read_name-2.ensures.value)); past = (λ n e. no-load-end _ n c.no_load-in_default-read_name-2.ensures e) }
+returns-in_err-kind-clause-value c = rw c.from_residual-in_err-kind.ensures (λ r. simp (sym c.in_ok-node.ensures.value, sym c.in_ok-phase.ensures.value, sym c.in_err-kind.ensures.value))
 
-pub returns-in_default-read_numbers : goal.returns-in_default-read_numbers
+pub returns-in_err-next-clause-value : goal.returns-in_err-next-clause-value
 unfolding load_row row names
-returns-in_default-read_numbers c = record { value = no-load-is _ _ c.no_load-in_default-read_numbers.ensures (λ r. simp (name1 (goal.at.returns-in_default-read_numbers c).In-Name, name2 (goal.at.returns-in_default-read_numbers c).In-Name-read_name, name3 (goal.at.returns-in_default-read_numbers c).In-Name-read_name-2, c.in_default-read_numbers.ensures.value r)); past = (λ n e. no-load-end _ n c.no_load-in_default-read_numbers.ensures e) }
+returns-in_err-next-clause-value c = rw c.from_residual-in_err-next.ensures (λ r. simp (sym c.in_ok-node.ensures.value, sym c.in_ok-phase.ensures.value, sym c.in_ok-kind.ensures.value, c.in_err-next.ensures.value r))
 
-pub returns : goal.returns
+pub returns-in_err-one-clause-value : goal.returns-in_err-one-clause-value
 unfolding load_row row names
-returns c = record { value = load-is-as _ _ _ (λ r. simp (name1 (goal.at.returns c).In-Name, name2 (goal.at.returns c).In-Name-read_name, name3 (goal.at.returns c).In-Name-read_name-2, c.in-Behind.ensures.value r)) c.load_of.ensures.value; past = (λ n e. let h = past3 (goal.at.returns c).In-Name-read_name-2 in let k = c.in-Behind.ensures.past _ refl (omega arith) in let d : n ≡ c.in-Behind.next = c.load_of.ensures.place n e in (omega arith, omega arith)) }
+returns-in_err-one-clause-value c = rw c.from_residual-in_err-one.ensures (λ r. simp (sym c.in_ok-node.ensures.value, sym c.in_ok-phase.ensures.value, sym c.in_ok-kind.ensures.value, c.in_ok-next.ensures.value r, c.in_err-one.ensures r))
+
+pub returns-in_err-letter-clause-value : goal.returns-in_err-letter-clause-value
+unfolding load_row row names
+returns-in_err-letter-clause-value c = rw c.from_residual-in_err-letter.ensures (λ r. simp (sym c.in_ok-node.ensures.value, sym c.in_ok-phase.ensures.value, sym c.in_ok-kind.ensures.value, c.in_ok-next.ensures.value r, c.in_ok-one.ensures r, c.in_err-letter.ensures r))
+
+pub returns-clause-value : goal.returns-clause-value
+unfolding load_row load_numbers row names
+returns-clause-value c =
+    record {
+      row = record { node = c.in_ok-node.node; phase = c.in_ok-one.one; kind = c.in_ok-letter.letter; vn = nth c.read_numbers.new.values 1; s = record { re = nth c.read_numbers.new.values 2; im = nth c.read_numbers.new.values 3 } };
+      outcome = λ r. simp (sym c.in_ok-node.ensures.value, sym c.in_ok-phase.ensures.value, sym c.in_ok-kind.ensures.value, c.in_ok-next.ensures.value r, c.in_ok-one.ensures r, c.in_ok-letter.ensures r);
+      node = refl;
+      numbers = c.numbers_of-numbers.ensures;
+    }

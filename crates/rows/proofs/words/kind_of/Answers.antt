@@ -1,25 +1,29 @@
--- `rows::words::kind_of` meets its contract: the test that holds is the entry that is found. Assumes nothing.
-use borrow.Author.Tests.{eq-eqb, ne_eqb}
+-- `rows::words::kind_of` meets its contract: the word that matches is the entry that is found. Assumes nothing.
+use Rattle.std.proofs.Common.{arith, ne_eqb}
 use Rattle.text.specs.Lines.{listed}
 use Rattle.text.specs.Text.{bytes, pack, word}
 use Rattle.rows.proofs.words.kind_of.Goals as goal
 
-pub returns-then-word-eq-L : goal.returns-then-word-eq-L
+-- L
+pub returns-in-76 : goal.returns-in-76
 unfolding listed word pack bytes
-returns-then-word-eq-L c r = simp (eq-eqb _ _ c.if-word-eq-L.true)
+returns-in-76 c r = simp c.in-76.is
 
-pub returns-then-word-eq-R : goal.returns-then-word-eq-R
+-- R
+pub returns-in-82 : goal.returns-in-82
 unfolding listed word pack bytes
-returns-then-word-eq-R c r = simp (ne_eqb _ _ c.if-word-eq-L.false, eq-eqb _ _ c.if-word-eq-R.true)
+returns-in-82 c r = simp c.in-82.is
 
-pub returns-then-word-eq-Y : goal.returns-then-word-eq-Y
+-- Y
+pub returns-in-89 : goal.returns-in-89
 unfolding listed word pack bytes
-returns-then-word-eq-Y c r = simp (ne_eqb _ _ c.if-word-eq-L.false, ne_eqb _ _ c.if-word-eq-R.false, eq-eqb _ _ c.if-word-eq-Y.true)
+returns-in-89 c r = simp c.in-89.is
 
-pub returns-then-word-eq-D : goal.returns-then-word-eq-D
+-- D
+pub returns-in-68 : goal.returns-in-68
 unfolding listed word pack bytes
-returns-then-word-eq-D c r = simp (ne_eqb _ _ c.if-word-eq-L.false, ne_eqb _ _ c.if-word-eq-R.false, ne_eqb _ _ c.if-word-eq-Y.false, eq-eqb _ _ c.if-word-eq-D.true)
+returns-in-68 c r = simp c.in-68.is
 
-pub returns : goal.returns
+pub returns-in_default : goal.returns-in_default
 unfolding listed word pack bytes
-returns c r = simp (ne_eqb _ _ c.if-word-eq-L.false, ne_eqb _ _ c.if-word-eq-R.false, ne_eqb _ _ c.if-word-eq-Y.false, ne_eqb _ _ c.if-word-eq-D.false)
+returns-in_default c r = simp (ne_eqb c.args.word 76 (λ e. omega arith), ne_eqb c.args.word 82 (λ e. omega arith), ne_eqb c.args.word 89 (λ e. omega arith), ne_eqb c.args.word 68 (λ e. omega arith))

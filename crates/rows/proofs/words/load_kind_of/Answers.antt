@@ -1,21 +1,24 @@
--- `rows::words::load_kind_of` meets its contract: the test that holds is the entry that is found. Assumes nothing.
-use borrow.Author.Tests.{eq-eqb, ne_eqb}
+-- `rows::words::load_kind_of` meets its contract: the word that matches is the entry that is found. Assumes nothing.
+use Rattle.std.proofs.Common.{arith, ne_eqb}
 use Rattle.text.specs.Lines.{listed}
 use Rattle.text.specs.Text.{bytes, pack, word}
 use Rattle.rows.proofs.words.load_kind_of.Goals as goal
 
-pub returns-then-word-eq-P : goal.returns-then-word-eq-P
+-- P
+pub returns-in-80 : goal.returns-in-80
 unfolding listed word pack bytes
-returns-then-word-eq-P c r = simp (eq-eqb _ _ c.if-word-eq-P.true)
+returns-in-80 c r = simp c.in-80.is
 
-pub returns-then-word-eq-I : goal.returns-then-word-eq-I
+-- I
+pub returns-in-73 : goal.returns-in-73
 unfolding listed word pack bytes
-returns-then-word-eq-I c r = simp (ne_eqb _ _ c.if-word-eq-P.false, eq-eqb _ _ c.if-word-eq-I.true)
+returns-in-73 c r = simp c.in-73.is
 
-pub returns-then-word-eq-Z : goal.returns-then-word-eq-Z
+-- Z
+pub returns-in-90 : goal.returns-in-90
 unfolding listed word pack bytes
-returns-then-word-eq-Z c r = simp (ne_eqb _ _ c.if-word-eq-P.false, ne_eqb _ _ c.if-word-eq-I.false, eq-eqb _ _ c.if-word-eq-Z.true)
+returns-in-90 c r = simp c.in-90.is
 
-pub returns : goal.returns
+pub returns-in_default : goal.returns-in_default
 unfolding listed word pack bytes
-returns c r = simp (ne_eqb _ _ c.if-word-eq-P.false, ne_eqb _ _ c.if-word-eq-I.false, ne_eqb _ _ c.if-word-eq-Z.false)
+returns-in_default c r = simp (ne_eqb c.args.word 80 (λ e. omega arith), ne_eqb c.args.word 73 (λ e. omega arith), ne_eqb c.args.word 90 (λ e. omega arith))

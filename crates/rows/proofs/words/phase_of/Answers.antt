@@ -1,33 +1,39 @@
--- `rows::words::phase_of` meets its contract: the test that holds is the entry that is found. Assumes nothing.
-use borrow.Author.Tests.{eq-eqb, ne_eqb}
+-- `rows::words::phase_of` meets its contract: the word that matches is the entry that is found. Assumes nothing.
+use Rattle.std.proofs.Common.{arith, ne_eqb}
 use Rattle.text.specs.Lines.{listed}
 use Rattle.text.specs.Text.{bytes, pack, word}
 use Rattle.rows.proofs.words.phase_of.Goals as goal
 
-pub returns-then-word-eq-A : goal.returns-then-word-eq-A
+-- A
+pub returns-in-65 : goal.returns-in-65
 unfolding listed word pack bytes
-returns-then-word-eq-A c r = simp (eq-eqb _ _ c.if-word-eq-A.true)
+returns-in-65 c r = simp c.in-65.is
 
-pub returns-then-word-eq-B : goal.returns-then-word-eq-B
+-- B
+pub returns-in-66 : goal.returns-in-66
 unfolding listed word pack bytes
-returns-then-word-eq-B c r = simp (ne_eqb _ _ c.if-word-eq-A.false, eq-eqb _ _ c.if-word-eq-B.true)
+returns-in-66 c r = simp c.in-66.is
 
-pub returns-then-word-eq-C : goal.returns-then-word-eq-C
+-- C
+pub returns-in-67 : goal.returns-in-67
 unfolding listed word pack bytes
-returns-then-word-eq-C c r = simp (ne_eqb _ _ c.if-word-eq-A.false, ne_eqb _ _ c.if-word-eq-B.false, eq-eqb _ _ c.if-word-eq-C.true)
+returns-in-67 c r = simp c.in-67.is
 
-pub returns-then-word-eq-AB : goal.returns-then-word-eq-AB
+-- AB
+pub returns-in-16706 : goal.returns-in-16706
 unfolding listed word pack bytes
-returns-then-word-eq-AB c r = simp (ne_eqb _ _ c.if-word-eq-A.false, ne_eqb _ _ c.if-word-eq-B.false, ne_eqb _ _ c.if-word-eq-C.false, eq-eqb _ _ c.if-word-eq-AB.true)
+returns-in-16706 c r = simp c.in-16706.is
 
-pub returns-then-word-eq-BC : goal.returns-then-word-eq-BC
+-- BC
+pub returns-in-16963 : goal.returns-in-16963
 unfolding listed word pack bytes
-returns-then-word-eq-BC c r = simp (ne_eqb _ _ c.if-word-eq-A.false, ne_eqb _ _ c.if-word-eq-B.false, ne_eqb _ _ c.if-word-eq-C.false, ne_eqb _ _ c.if-word-eq-AB.false, eq-eqb _ _ c.if-word-eq-BC.true)
+returns-in-16963 c r = simp c.in-16963.is
 
-pub returns-then-word-eq-CA : goal.returns-then-word-eq-CA
+-- CA
+pub returns-in-17217 : goal.returns-in-17217
 unfolding listed word pack bytes
-returns-then-word-eq-CA c r = simp (ne_eqb _ _ c.if-word-eq-A.false, ne_eqb _ _ c.if-word-eq-B.false, ne_eqb _ _ c.if-word-eq-C.false, ne_eqb _ _ c.if-word-eq-AB.false, ne_eqb _ _ c.if-word-eq-BC.false, eq-eqb _ _ c.if-word-eq-CA.true)
+returns-in-17217 c r = simp c.in-17217.is
 
-pub returns : goal.returns
+pub returns-in_default : goal.returns-in_default
 unfolding listed word pack bytes
-returns c r = simp (ne_eqb _ _ c.if-word-eq-A.false, ne_eqb _ _ c.if-word-eq-B.false, ne_eqb _ _ c.if-word-eq-C.false, ne_eqb _ _ c.if-word-eq-AB.false, ne_eqb _ _ c.if-word-eq-BC.false, ne_eqb _ _ c.if-word-eq-CA.false)
+returns-in_default c r = simp (ne_eqb c.args.word 65 (λ e. omega arith), ne_eqb c.args.word 66 (λ e. omega arith), ne_eqb c.args.word 67 (λ e. omega arith), ne_eqb c.args.word 16706 (λ e. omega arith), ne_eqb c.args.word 16963 (λ e. omega arith), ne_eqb c.args.word 17217 (λ e. omega arith))

