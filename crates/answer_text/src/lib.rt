@@ -16,6 +16,9 @@ fn line_width(number: usize, value: usize) -> usize
     digits_width(number as u64, 20) + digits_width(value as u64, 20) + 10
 }
 
+// The three writers here write by hand, as nothing is on the heap and each byte of the buffer is promised: Display and write! promise no bytes of a buffer that
+// is lent.
+
 // The line "refused NUMBER VALUE".
 fn put_line(out: &mut [u8], number: usize, value: usize) -> usize
     requires { length (refused_line number value) ≤ length out.old }

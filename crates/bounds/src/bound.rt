@@ -17,11 +17,11 @@
 // slope times e, and what the two currents, as an impedance and at constant power, differ by at the voltage that is not so low.
 // Where these sweeps settle, no report that follows documents 01 and 02 is further off: what a report is off by is at most one more sweep of itself. Where they
 // do not, as near a collapse of the voltage, there is no bound.
-use arrays::{Branches, Loads, Places, Settings, Threes, load_at, three_at};
-use feeder::{Load, LoadKind, PerPhase, Terminals, Three};
+use arrays::Threes;
+use feeder::{Load, LoadKind, Network, PerPhase, Terminals, Three};
 use floats::component::{Quantity, rounding};
 use floats::phasor::{Phasor, PhasorRows, Phasors, Solution, ZERO, no_rows, real};
-use floats::solver::{load_count, low, on_phases, place, sweep, voltage_across};
+use floats::solver::{low, on_phases, place, sweep, voltage_across};
 use std::ops::Add;
 
 // What the currents at constant power and as an impedance differ by, at a voltage of length x.
@@ -80,23 +80,21 @@ fn load_bounds(l: Load, solved: Phasors, reported: Three, bounds: Phasors, moved
     on_phases(l.phase, bound, bound)
 }
 
-// The sum over the loads at each node.
+// The sum over the loads at each node, from the bounds on its voltages: it stands in the currents.
 fn drawn_bounds(
-    loads: &Loads,
-    rows: usize,
+    network: &Network,
     solved: &PhasorRows,
     reported: &Threes,
-    bounds: &PhasorRows,
     moved: f64,
-    own: &mut PhasorRows,
+    bounds: &mut Solution,
 ) {
-    *own = no_rows();
-    for row in 0..load_count(rows) {
-        let l = load_at(loads, row);
+    bounds.currents = no_rows();
+    for row in 0..network.count {
+        let l = network.loads[row];
         let node = place(l.node);
-        let w = three_at(reported, node);
-        let added = load_bounds(l, solved[node], w, bounds[node], moved);
-        own[node] = own[node].zip(added, Add::add);
+        let e = bounds.voltages[node];
+        let added = load_bounds(l, solved[node], reported[node], e, moved);
+        bounds.currents[node] = bounds.currents[node].zip(added, Add::add);
     }
 }
 
@@ -104,29 +102,17 @@ fn drawn_bounds(
 // enough. They stand in re, and are 0 before the first sweep. The source is not off. The answer is what is added to the bounds on the voltages for the last
 // sweep's movement.
 pub fn bounds_on(
-    settings: Settings,
-    branches: &Branches,
-    loads: &Loads,
-    order: &Places,
+    network: &Network,
     solved: &PhasorRows,
     reported: &Threes,
     bounds: &mut Solution,
 ) -> Option<f64> {
-    let rows = settings.rows;
     let none = PerPhase::same(ZERO);
-    let moved = 2.0f64.sqrt() * std::num::nearest_u64_to_f64(settings.tol);
+    let moved = 2.0f64.sqrt() * std::num::nearest_u64_to_f64(network.tol);
     bounds.voltages = no_rows();
     for _ in 0..1000 {
-        drawn_bounds(
-            loads,
-            settings.count,
-            solved,
-            reported,
-            &bounds.voltages,
-            moved,
-            &mut bounds.currents,
-        );
-        if sweep(branches, rows, order, Quantity::Bound, none, bounds) {
+        drawn_bounds(network, solved, reported, moved, bounds);
+        if sweep(network, Quantity::Bound, none, bounds) {
             return Some(moved);
         }
     }

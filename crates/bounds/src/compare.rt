@@ -1,5 +1,5 @@
 // The report against the solution in floats.
-use arrays::{Threes, three_at};
+use arrays::Threes;
 use floats::phasor::{Phasor, PhasorRows, Phasors, larger};
 use floats::solver::place;
 
@@ -45,7 +45,7 @@ pub fn compare(
         share: 0.0,
     };
     for k in 1..place(rows) + 1 {
-        let y = three_at(reported, k).map(Phasor::from);
+        let y = reported[k].map(Phasor::from);
         c = compare_row(c, solved[k], y, bounds[k], moved);
     }
     c

@@ -1,5 +1,3 @@
--- Definitions
-pub mod Regulator
 -- Laws
 pub mod TapRows
 pub mod Setting

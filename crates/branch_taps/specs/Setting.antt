@@ -1,5 +1,5 @@
 -- The branches while each row gets its taps, one after the other, and what they are at the end. Assumes nothing.
-use Rattle.std.specs.Prelude.{List, [], ◌∷◌, ◌≡◌, refl, false, get_or, length, set}
+use Rattle.std.specs.Prelude.{List, ◌∷◌, ◌≡◌, refl, false, get_or, length, set}
 use Rattle.std.proofs.Common.{◌∙◌, ap, sym, arith, length-set, get_or-set_other, get_or-set_same}
 use Prim.Native.Nat.{◌+◌, ◌<◌, ◌≤◌, suc, zero, ℕ}
 use Rattle.std.proofs.Math.Decide.{dec_lt, ℕ_discrete}
@@ -21,11 +21,6 @@ no-taps t b e = go b.device e
     go (Line z) e = refl
     go (Regulator x) e = (let w : ◌≡◌ {A = ℕ} 0 1 = cc in absurd (omega arith))
     go (Transformer x) e = refl
-
-pub set_own : {X : Type 0} (l : List X) (k : ℕ) (d : X) → set l k (get_or l k d) ≡ l
-set_own [] k d = refl
-set_own (x ∷ l) zero d = refl
-set_own (x ∷ l) (suc k) d = ap (λ (r : List _). x ∷ r) (set_own l k d)
 
 -- ---- rows 1 to k - 1 have got theirs, row j the taps t j: l is m but for these
 pub record Setting (k : ℕ) (m l : List Branch) (t : ℕ → Taps) : Type 0 where

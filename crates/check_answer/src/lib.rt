@@ -10,6 +10,8 @@ ghost use Rattle.text.specs.Text.{bytes};
 use answer_text::{put_refusal, put_text};
 use report_check::check;
 
+// Written by hand, as nothing is on the heap and each byte of `out` is promised: Display and write! promise no bytes of a buffer that is lent.
+//
 // "pass", or the line "refused NUMBER VALUE", at the start of `out`; where `out` has no room for it, nothing. Answers how many bytes were written. For all
 // bytes and all lengths; where the text is "pass", the power account holds.
 pub fn put_check_answer(feeder: &[u8], report: &[u8], out: &mut [u8]) -> usize

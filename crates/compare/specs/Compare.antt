@@ -1,8 +1,8 @@
 -- The tests 51, 52, 53, 55 and 56 over arrays, as the code makes them. Assumes nothing.
-use Rattle.std.specs.Prelude.{Bool, ◌&&◌, cond, not, true, List, ◌∷◌, ◌*◌, ◌+◌, ◌-◌, ◌<◌, suc, zero, ℕ, eqb, get_or, Option}
+use Rattle.std.specs.Prelude.{Bool, ◌&&◌, cond, not, true, List, ◌∷◌, ◌*◌, ◌+◌, ◌-◌, ◌<◌, suc, zero, ℕ, eqb, ℤ, get_or, Option}
 use Rattle.equations.specs.Equations.{at, zero3}
 use Rattle.equations.specs.Taps.{moved_on, same_taps}
-use Rattle.feeder.specs.Feeder.{abc, all_phases, first_row, has, level_of, no_branch, taps_on}
+use Rattle.feeder.specs.Feeder.{abc, all_phases, first_row, has, level_of, no_branch, pair_at, taps_on}
 use Rattle.feeder.specs.declared.Branch.{Branch}
 use Rattle.feeder.specs.Phased.{Phases, Three}
 use Rattle.integers.specs.Lists.{all, count}
@@ -10,6 +10,7 @@ use Rattle.integers.specs.Pairs.{0c, inside, same}
 use Rattle.integers.specs.declared.Pair.{Pair}
 use Rattle.radial.specs.Radial.{parent_in}
 use Rattle.tap_table.specs.Regulators.{regulators_from}
+use Rattle.compare.specs.declared.Powers.{Powers}
 use Rattle.compare.specs.Differences.{same3}
 
 -- the report's line of the first node, and of the first branch row, of which a test fails
@@ -52,9 +53,15 @@ absent_differs branches v k = not (absent_zero (phases_in branches k) (get_or v 
 abbrev pub three_differs : List Three → List Three → ℕ → Bool
 three_differs x y k = not (same3 (get_or x k zero3) (get_or y k zero3))
 
--- 55: the loss of a branch row
+-- 55: the loss of a branch row; and the totals, of which the first number is the sweeps
 abbrev pub losses_same : List Pair → List Pair → ℕ → Bool
 losses_same x y k = same (get_or x k 0c) (get_or y k 0c)
+
+abbrev pub told_powers : List ℤ → Powers
+told_powers totals = record { source = pair_at totals 2; drawn = pair_at totals 4; lost = pair_at totals 6 }
+
+abbrev pub same_powers : Powers → Powers → Bool
+same_powers x y = same x.source y.source && (same x.drawn y.drawn && same x.lost y.lost)
 
 -- 56: the taps of a branch row would not move at these voltages and currents; and the test of a row, by the feeder's branches and those with the reported taps
 abbrev pub rests_in : List Branch → List Three → List Three → ℕ → Bool

@@ -10,6 +10,8 @@ use Rattle.integers.specs.Bools.{and-false, same?}
 use Rattle.integers.specs.Equal.{equal-pair}
 use Rattle.integers.specs.Lists.{all, count, tab}
 use Rattle.integers.specs.Pairs.{same}
+use Rattle.compare.specs.declared.Powers.{Powers}
+use Rattle.compare.specs.Compare.{same_powers}
 use Rattle.compare.specs.Differences.{same3}
 
 -- the line of the first row of which a test fails
@@ -67,7 +69,11 @@ not-all p n k z h e = go 1 n (omega arith) (omega arith)
     go a zero s q = absurd (omega arith)
     go a (suc m) s q = same? a k (λ w. rw (w, e)) (λ ne. rw (go (a + 1) m (omega arith) (omega arith)) (and-false (p a)))
 
--- ---- the machine's `==` on the pairs of three phases
+-- ---- the machine's `==` on the pairs of three phases, and on the totals
 pub equal-three : (x y : Three) →
     ((int_eq x.a.re y.a.re && int_eq x.a.im y.a.im) && ((int_eq x.b.re y.b.re && int_eq x.b.im y.b.im) && (int_eq x.c.re y.c.re && int_eq x.c.im y.c.im))) ≡ same3 x y
 equal-three x y = all-of (λ p. same (at x p) (at y p)) (equal-pair x.a y.a) (equal-pair x.b y.b) (equal-pair x.c y.c)
+
+pub equal-powers : (x y : Powers) →
+    ((int_eq x.source.re y.source.re && int_eq x.source.im y.source.im) && ((int_eq x.drawn.re y.drawn.re && int_eq x.drawn.im y.drawn.im) && (int_eq x.lost.re y.lost.re && int_eq x.lost.im y.lost.im))) ≡ same_powers x y
+equal-powers x y = ap₂ ◌&&◌ (equal-pair x.source y.source) (ap₂ ◌&&◌ (equal-pair x.drawn y.drawn) (equal-pair x.lost y.lost))

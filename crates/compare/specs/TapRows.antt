@@ -5,12 +5,12 @@ use Rattle.std.proofs.Common.{◌∙◌}
 use Prim.Native.Nat.{◌*◌, ◌+◌, ◌-◌, ◌<◌, ◌≤◌, suc, zero, ℕ}
 use native.Mathlib.Omega.{arith}
 use Rattle.equations.specs.Taps.{moved_on, moved_taps, same_taps}
-use Rattle.feeder.specs.Feeder.{first_row, no_taps, regulates, taps_on}
+use Rattle.feeder.specs.Feeder.{first_row, no_taps, regulator_of, taps_on}
 use Rattle.feeder.specs.declared.Branch.{Branch}
 use Rattle.feeder.specs.declared.Device.{Device}
 use Rattle.feeder.specs.declared.Device.TheVariants.{Line, Regulator, Transformer}
 use Rattle.feeder.specs.Phased.{Three}
-use Rattle.integers.specs.Bools.{clash}
+use Rattle.feeder.specs.declared.TapChanger.{TapChanger}
 use Rattle.integers.specs.Lists.{all, chosen, count, tab}
 use Rattle.integers.specs.Pairs.{inside}
 use Rattle.tap_table.specs.Regulators.{regulates_in, regulators_from}
@@ -65,12 +65,22 @@ same-tap-rows p q bs rows h = go (suc rows - 1) 1 0 (omega arith) (omega arith)
         one false a b = b
 
 -- ---- taps
--- a regulator's taps after a move; a line and a transformer have none
-pub no-taps-rest : (b : Branch) (u i : Three) → regulates b.device ≡ false → same_taps (moved_on b u i) (taps_on b.device) ≡ true
-unfolding moved_on all inside
-no-taps-rest b u i e = go b.device e
-  where
-    go : (d : Device) → regulates d ≡ false → same_taps (elim d [ Line z ↦ no_taps | Regulator x ↦ moved_taps x b.phases u i | Transformer x ↦ no_taps ]) (taps_on d) ≡ true
-    go (Line z) e = refl
-    go (Regulator x) e = clash true refl e
-    go (Transformer x) e = refl
+-- a regulator's taps and those after a move; a line and a transformer have none
+module _ (b : Branch) (u i : Three) where
+  pub no-taps-rest : regulator_of b.device ≡ None → same_taps (moved_on b u i) (taps_on b.device) ≡ true
+  unfolding moved_on all inside
+  no-taps-rest = go b.device
+    where
+      go : (d : Device) → regulator_of d ≡ None → same_taps (elim d [ Line z ↦ no_taps | Regulator x ↦ moved_taps x b.phases u i | Transformer x ↦ no_taps ]) (taps_on d) ≡ true
+      go (Line z) e = refl
+      go (Regulator x) e = cc
+      go (Transformer x) e = refl
+
+  pub regulator-rests : {x : TapChanger} → regulator_of b.device ≡ Some x → same_taps (moved_taps x b.phases u i) x.taps ≡ same_taps (moved_on b u i) (taps_on b.device)
+  unfolding moved_on
+  regulator-rests {x} = go b.device
+    where
+      go : (d : Device) → regulator_of d ≡ Some x → same_taps (moved_taps x b.phases u i) x.taps ≡ same_taps (elim d [ Line z ↦ no_taps | Regulator y ↦ moved_taps y b.phases u i | Transformer y ↦ no_taps ]) (taps_on d)
+      go (Line z) e = cc
+      go (Regulator y) e = let z : y ≡ x = cc in rw z
+      go (Transformer y) e = cc

@@ -2,7 +2,6 @@
 #![tactic(auto)]
 
 ghost use Rattle.std.specs.Prelude.{false, true, ◌≡◌, ℕ, ◌+◌, ◌<◌, get_or};
-ghost use Rattle.arrays.specs.Arrays.{branches_of, threes_of};
 ghost use Rattle.feeder.specs.Feeder.{Feeder};
 ghost use Rattle.equations.specs.Equations.{voltages, zero3};
 ghost use Rattle.equations.specs.Sizes.{Within3};
@@ -10,82 +9,56 @@ ghost use Rattle.deviations.specs.Deviations.{Comparable, MarksAre, first_marked
 ghost use Rattle.passes.specs.Passes.{InArrays, Ready};
 ghost use Rattle.radial.specs.Radial.{Linked};
 
-use arrays::{Branches, Places, Threes};
+use arrays::Threes;
 use devices::threes;
-use feeder::Three;
+use feeder::{NO_THREE, Network};
 
-// The nodes that are off, and those below them: the voltages are worked downward, each from the worked one above it, as far as none is off by more than `tol`.
-fn mark_off(
-    branches: &Branches,
-    rows: usize,
-    order: &Places,
-    rank: &Places,
-    source: Three,
-    i: &Threes,
-    reported: &Threes,
-    tol: u64,
-) -> [bool; 201]
-    requires ready { Ready (branches_of branches.now) rows order.now rank.now }
-    requires comparable { Comparable source (threes_of reported.now) tol }
-    requires by_index { (k : ℕ) → 0 < k → k < rows + 1 → Within3 2000000 (get_or (threes_of i.now) k zero3) }
-    ensures value { (f : Feeder) → InArrays f (branches_of branches.now) rows → source ≡ f.source → MarksAre f (branches_of branches.now) rows (threes_of i.now) (threes_of reported.now) tol result }
+// The nodes that are off, and those below them: the voltages are worked downward, each from the worked one above it, as far as none is off by more than the tolerance.
+fn mark_off(network: &Network, i: &Threes, reported: &Threes) -> [bool; 201]
+    requires ready { Ready network.now }
+    requires comparable { Comparable network.now.source reported.now network.now.tol }
+    requires by_index { (k : ℕ) → 0 < k → k < network.now.rows + 1 → Within3 2000000 (get_or i.now k zero3) }
+    ensures value { (f : Feeder) → InArrays f network.now → network.now.source ≡ f.source → MarksAre f network.now.branches network.now.rows i.now reported.now network.now.tol result }
     ensures source { get_or result 0 false ≡ false }
 {
-    let mut worked = [[0i64; 6]; 201];
-    arrays::put_three(&mut worked, 0, source);
+    let mut worked = [NO_THREE; 201];
+    worked[0] = network.source;
     let mut off = [false; 201];
-    for place in 1..rows + 1 {
-        let m = order[place];
-        let b = arrays::branch_at(branches, m);
-        let from = b.from;
-        if off[from] {
+    for place in 1..network.rows + 1 {
+        let m = network.order[place];
+        let b = network.branches[m];
+        if off[b.from] {
             off[m] = true;
         } else {
-            let u = arrays::three_at(&worked, from);
-            let current = arrays::three_at(i, m);
-            let y = devices::far_voltage(b, u, current);
-            let t = arrays::three_at(reported, m);
-            let near = threes::close(y, t, tol);
-            arrays::put_three(&mut worked, m, y);
-            off[m] = !near;
+            let y = devices::far_voltage(b, worked[b.from], i[m]);
+            worked[m] = y;
+            off[m] = !threes::close(y, reported[m], network.tol);
         }
     }
     off
 }
 
 // The report's line of the first node that is marked and whose parent is not.
-fn first_marked(branches: &Branches, rows: usize, off: [bool; 201]) -> Option<usize>
-    requires linked { Linked (branches_of branches.now) rows }
+fn first_marked(network: &Network, off: [bool; 201]) -> Option<usize>
+    requires linked { Linked network.now.branches network.now.rows }
     requires false_value { get_or off 0 false ≡ false }
-    ensures { result ≡ first_marked (branches_of branches.now) rows off }
+    ensures { result ≡ first_marked network.now.branches network.now.rows off }
 {
-    for k in 1..rows + 1 {
-        if off[k] {
-            let from = arrays::from_at(branches, k);
-            if !off[from] {
-                return Some(k + 2);
-            }
+    for k in 1..network.rows + 1 {
+        if off[k] && !off[network.branches[k].from] {
+            return Some(k + 2);
         }
     }
     None
 }
 
-// Reported voltages against worked ones, refusal 54: the report's line of the first node that is off by more than `tol` and is fed through none that is.
-pub fn compare_pass(
-    branches: &Branches,
-    rows: usize,
-    order: &Places,
-    rank: &Places,
-    source: Three,
-    i: &Threes,
-    reported: &Threes,
-    tol: u64,
-) -> Option<usize>
-    requires ready { Ready (branches_of branches.now) rows order.now rank.now }
-    requires comparable { Comparable source (threes_of reported.now) tol }
-    requires by_index { (k : ℕ) → 0 < k → k < rows + 1 → Within3 2000000 (get_or (threes_of i.now) k zero3) }
-    ensures { (f : Feeder) → InArrays f (branches_of branches.now) rows → source ≡ f.source → result ≡ first_off f tol (voltages f (threes_of i.now)) (threes_of reported.now) }
+// Reported voltages against worked ones, refusal 54: the report's line of the first node that is off by more than the tolerance and is fed through none that is.
+pub fn compare_pass(network: &Network, i: &Threes, reported: &Threes) -> Option<usize>
+    requires ready { Ready network.now }
+    requires comparable { Comparable network.now.source reported.now network.now.tol }
+    requires by_index { (k : ℕ) → 0 < k → k < network.now.rows + 1 → Within3 2000000 (get_or i.now k zero3) }
+    ensures { (f : Feeder) → InArrays f network.now → network.now.source ≡ f.source → result ≡ first_off f network.now.tol (voltages f i.now) reported.now }
 {
-    let off = mark_off(branches, rows, order, rank, source, i, reported, tol);
-    first_marked(branches, rows, off)
+    let off = mark_off(network, i, reported);
+    first_marked(network, off)
 }

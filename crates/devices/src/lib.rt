@@ -44,6 +44,7 @@ const SIGNS: [SignTable; 2] = [
     },
 ];
 
+// Each arm gives a value of the subject, its table of signs, and none is a step to run.
 fn signs_of(c: Connection) -> SignTable
     ensures { result ≡ sign_table c }
 {
@@ -88,15 +89,16 @@ fn regulated(d: TapChanger, x: Three) -> Three
 
 // ---- transformers
 
-// M / N times what a row of signs makes of x.
-fn turn(row: Signs, t: Windings, x: Three) -> Pair
+// m / d times what a row of signs makes of x.
+fn turn(row: Signs, m: i64, d: u64, x: Three) -> Pair
     requires signs_ok { SignsOk row }
-    requires windings_ok { WindingsOk t }
+    requires m_bound { nat_abs m ≤ 1000000 }
+    requires d_nonzero { 0 < d }
+    requires d_bound { d ≤ 1000000 }
     requires within3 { Within3 2100000 x }
-    ensures { result ≡ rnd_pair (scaled t.m (mix row x)) (nat_abs t.n) }
+    ensures { result ≡ rnd_pair (scaled m (mix row x)) d }
 {
-    let d = whole::size(t.n);
-    ratio(t.m, d, threes::mix(row, x))
+    ratio(m, d, threes::mix(row, x))
 }
 
 // M / N times what the signs make of x.
@@ -106,8 +108,12 @@ fn turned(s: Matrix, t: Windings, x: Three) -> Three
     requires within3 { Within3 2100000 x }
     ensures { result ≡ each (λ p. rnd_pair (scaled t.m (mix (row_at s p) x)) (nat_abs t.n)) }
 {
-    s.map(|row| turn(row, t, x))
+    let m = t.m;
+    let d = whole::size(t.n);
+    s.map(|row| turn(row, m, d, x))
 }
+
+// voltage_through and current_through are alike but for the table of signs and the promise.
 
 fn voltage_through(t: Windings, u: Three) -> Three
     requires windings_ok { WindingsOk t }
@@ -192,6 +198,9 @@ fn winding_drop(t: Windings, i: Three) -> Three
 }
 
 // ---- a device, and a branch
+
+// The matches on a device in through, taken and drop_of: each arm gives a value of the subject, and none is a step to run.
+// through and taken are alike but for the table of signs that a transformer has in each, and the promise.
 
 // What passes through the device, before the drop.
 pub fn through(d: Device, u: Three) -> Three

@@ -1,5 +1,5 @@
 // A pair for each phase: sums, rows of signs, masks and tests.
-ghost use Rattle.std.specs.Prelude.{◌≡◌, ◌&&◌, cond, ◌^◌};
+ghost use Rattle.std.specs.Prelude.{◌≡◌, cond, ◌^◌};
 ghost use Rattle.integers.specs.Pairs.{0c, ◌+c◌, scaled, within, close};
 ghost use Rattle.integers.specs.PairLaws.{Within};
 ghost use Rattle.integers.specs.Lists.{all};
@@ -64,13 +64,6 @@ pub fn keep(f: Phases, x: Three) -> Three
     ensures { result ≡ masked f x }
 {
     f.zip(x, kept)
-}
-
-// Whether a test holds on every phase.
-pub fn all_of(a: bool, b: bool, c: bool) -> bool
-    ensures { result ≡ (a && (b && c)) }
-{
-    Phases { a, b, c }.all()
 }
 
 // Whether no part of any phase is beyond ±n.

@@ -12,7 +12,7 @@ use Rattle.equations.specs.SumSizes.{csum-within, sum3-within}
 use Rattle.equations.specs.ThreeLaws.{plus3-idr}
 use Rattle.feeder.specs.Feeder.{Feeder, phase_signs}
 use Rattle.feeder.specs.Network.{load_array, no_load}
-use Rattle.feeder.specs.NetworkLaws.{get_or_kept}
+use Rattle.feeder.specs.NetworkLaws.{get_or-blank, get_or_kept}
 use Rattle.feeder.specs.declared.Load.{Load}
 use Rattle.feeder.specs.Phased.{Three}
 use Rattle.integers.specs.Bools.{cond_ind}
@@ -91,14 +91,9 @@ pub record Summed (ls : List Load) (v : List Three) (over : Bool) (drawn : Pair)
   pub own_is : (k : ℕ) → get_or own k zero3 ≡ sum3 (part_at (drawn_current v) k) ls
   pub drawn-is : drawn ≡ csum (power_of v (drawn_current v)) ls
 
-blank : (n k : ℕ) → get_or (replicate n zero3) k zero3 ≡ zero3
-blank zero k = refl
-blank (suc n) zero = refl
-blank (suc n) (suc k) = blank n k
-
 pub summed-none : (v : List Three) → Summed [] v false 0c (replicate 201 zero3)
 unfolding any sum3 csum
-summed-none v = record { none-lacks = refl; over-is = refl; places = length-replicate 201 zero3; own_is = blank 201; drawn-is = refl }
+summed-none v = record { none-lacks = refl; over-is = refl; places = length-replicate 201 zero3; own_is = get_or-blank zero3 201; drawn-is = refl }
 
 or-false : (a : Bool) {b c : Bool} → b ≡ a → c ≡ false → b ≡ cond a true c
 or-false true e q = e

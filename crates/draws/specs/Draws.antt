@@ -1,5 +1,5 @@
 -- What the load rows draw at given voltages, all together (01). Assumes nothing.
-use Rattle.std.specs.Prelude.{Bool, false, true, List, ◌≡◌, ◌<◌, ◌≤◌, ℕ, get_or, Result, Ok, Err, IfOk, OnOk}
+use Rattle.std.specs.Prelude.{Bool, false, true, List, ◌≡◌, ◌<◌, ℕ, get_or, Result, Ok, Err, IfOk, OnOk}
 use Rattle.equations.specs.Equations.{drawn_power, load_beyond, loads_at, zero3, zero_voltage}
 use Rattle.equations.specs.Limits.{LoadOk}
 use Rattle.equations.specs.Sizes.{Within3}
@@ -32,7 +32,6 @@ pub record SmallDraws (r : Result Pair LoadError) (own : List Three) : Type 0 wh
 
 -- what the code needs of the rows and the voltages
 pub record LoadsOk (loads : List Load) (n : ℕ) (v : List Three) : Type 0 where
-  pub few : n ≤ 300
   pub limits : (l : ℕ) → l < n → LoadOk (get_or loads l no_load)
   pub nodes : (l : ℕ) → l < n → (get_or loads l no_load).node < 201
   pub voltages : (k : ℕ) → Within3 2000000 (get_or v k zero3)

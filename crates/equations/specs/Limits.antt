@@ -82,6 +82,7 @@ pub record WindingsOk (x : Windings) : Type 0 where
   pub m : Counted 1000000 x.m
   pub z : Within3 100000000 x.z
 
+-- Contracts ask it, and no device or load has it in its type: the definitions make a feeder of every file that is well laid out, whatever its numbers are
 abbrev pub DeviceOk : Device → Type 0
 DeviceOk (Line z) = LineOk z
 DeviceOk (Regulator x) = ChangerOk x

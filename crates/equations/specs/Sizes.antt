@@ -22,7 +22,8 @@ use Rattle.integers.specs.Ring.{neg-mulℤ, ring}
 use Rattle.integers.specs.Whole.{abs-parts, add_parts, neg-neg, one-part, pos-neg}
 use Rattle.integers.specs.declared.Pair.{Pair}
 
--- no part of any phase is beyond ±m
+-- no part of any phase is beyond ±m. Contracts ask it, and no type has it: each step of the equations has a bound of its own, and would take the numbers out of one type
+-- and into the next
 pub record Within3 (m : ℕ) (x : Three) : Type 0 where
   pub a : Within m x.a
   pub b : Within m x.b

@@ -6,8 +6,6 @@ use Rattle.answers.specs.declared.Refusal.TheVariants.{NotReached, NotZero, OutO
 use Rattle.feeder.specs.Layout.{Rows, layout, phase_set}
 use Rattle.feeder.specs.declared.Branch.{Branch}
 use Rattle.feeder.specs.declared.BranchRow.{BranchRow}
-use Rattle.feeder.specs.declared.Column.{Column}
-use Rattle.feeder.specs.declared.Column.TheVariants.{Given, Unused}
 use Rattle.feeder.specs.declared.Connection.TheVariants.{Delta, Wye}
 use Rattle.feeder.specs.declared.Device.{Device}
 use Rattle.feeder.specs.declared.Device.TheVariants.{Line, Regulator, Transformer}
@@ -18,6 +16,7 @@ use Rattle.feeder.specs.declared.LoadRow.{LoadRow}
 use Rattle.feeder.specs.declared.Phase.{Phase}
 use Rattle.feeder.specs.declared.Phase.TheVariants.{A, B, C}
 use Rattle.feeder.specs.Phased.{Phases, Signs, Taps, Three}
+use Rattle.feeder.specs.declared.TapChanger.{TapChanger}
 use Rattle.feeder.specs.declared.Terminals.{Terminals}
 use Rattle.feeder.specs.declared.Terminals.TheVariants.{AB, BC, CA, OnA, OnB, OnC}
 use Rattle.integers.specs.Lists.{all, chosen, count, tab}
@@ -88,22 +87,35 @@ delta BC = true
 delta CA = true
 
 -- ---- the columns p1 to p12 of each kind of row
+-- of a number its least and its greatest value, and the phases that it belongs to
+pub record Limits : Type 0 where
+  pub least : ℤ
+  pub greatest : ℤ
+  pub phases : Phases
+
+-- such a number, or a column that is unused
+abbrev pub Column : Type 0
+Column = Option Limits
+
+abbrev pub given : ℤ → ℤ → Phases → Column
+given lo hi f = Some (record { least = lo; greatest = hi; phases = f })
+
 abbrev pub impedance : Phases → Column
-impedance f = Given (neg_ℤ (pos 100000000)) (pos 100000000) f
+impedance f = given (neg_ℤ (pos 100000000)) (pos 100000000) f
 
 abbrev pub tap : Phases → Column
-tap f = Given (neg_ℤ (pos 16)) (pos 16) f
+tap f = given (neg_ℤ (pos 16)) (pos 16) f
 
 abbrev pub turns : Column
-turns = Given (pos 1) (pos 1000000) no_phases
+turns = given (pos 1) (pos 1000000) no_phases
 
 -- 02: "A regulator row gets p4 level and p5 bandwidth (cV, 0 to 20,000), p6 potential ratio and p7 current ratio (1 to 10,000), p8 and p9 compensator R and X
 -- (limits as for lines)"
 abbrev pub centivolts : Column
-centivolts = Given (pos 0) (pos 20000) no_phases
+centivolts = given (pos 0) (pos 20000) no_phases
 
 abbrev pub ratio : Column
-ratio = Given (pos 1) (pos 10000) no_phases
+ratio = given (pos 1) (pos 10000) no_phases
 
 -- "Level 0 keeps the taps fixed, and then p5 to p9 are 0, under 24 and not 11": at level 0 these columns are unused
 abbrev pub relay_columns : ℤ → List Column
@@ -126,7 +138,7 @@ columns Y level = let z = impedance no_phases in turns ∷ turns ∷ z ∷ z ∷
 columns D level = let z = impedance no_phases in turns ∷ turns ∷ z ∷ z ∷ z ∷ z ∷ z ∷ z ∷ []
 
 unfoldable pub column_of : Kind → List ℤ → ℕ → Column
-column_of k p j = get_or (columns k (nth p 4)) (j - 1) Unused
+column_of k p j = get_or (columns k (nth p 4)) (j - 1) None
 
 -- ---- 11: "Voltages −2,000,000 to 2,000,000; tol 0 to 1,000 cV; sweeps 1 to 100", the limits of each kind of row, at most 200 and 300 rows
 abbrev pub between : ℤ → ℤ → ℤ → Bool
@@ -137,8 +149,8 @@ source_in p = all (inside 2000000) (take 6 p) && (between (pos 0) (pos 1000) (nt
 
 -- "a field that can only be 0 in its kind of row has no limit under 11"
 abbrev pub in_limit : Column → ℤ → Bool
-in_limit (Given lo hi f) z = between lo hi z
-in_limit Unused z = true
+in_limit (Some x) z = between x.least x.greatest z
+in_limit None z = true
 
 unfoldable pub branch_in : Kind → List ℤ → Bool
 branch_in k p = all (λ j. in_limit (column_of k p j) (nth p j)) (count 1 12)
@@ -249,6 +261,12 @@ regulates (Line z) = false
 regulates (Regulator x) = true
 regulates (Transformer x) = false
 
+-- a device as a regulator, where it is one
+abbrev pub regulator_of : Device → Option TapChanger
+regulator_of (Line z) = None
+regulator_of (Regulator x) = Some x
+regulator_of (Transformer x) = None
+
 -- a device's taps and level, and the device with other taps
 abbrev pub taps_on : Device → Taps
 taps_on (Line z) = no_taps
@@ -259,6 +277,10 @@ abbrev pub level_of : Device → ℤ
 level_of (Line z) = pos 0
 level_of (Regulator x) = x.level
 level_of (Transformer x) = pos 0
+
+-- "Level 0 keeps the taps fixed"
+abbrev pub moves_taps : Device → Bool
+moves_taps d = not (inside 0 (level_of d))
 
 abbrev pub tapped : Taps → Device → Device
 tapped t (Line z) = Line z
@@ -308,8 +330,8 @@ phase_absent r =
 
 -- 24: "nonzero where 0 is due": where a phase that the column belongs to is absent, and where the kind does not use the column
 abbrev pub zero_if_due : Phases → Column → ℤ → Bool
-zero_if_due f (Given lo hi g) z = cond (all_of g f) true (inside 0 z)
-zero_if_due f Unused z = inside 0 z
+zero_if_due f (Some x) z = cond (all_of x.phases f) true (inside 0 z)
+zero_if_due f None z = inside 0 z
 
 unfoldable pub zeros : Kind → Phases → List ℤ → Bool
 zeros k f p = all (λ j. zero_if_due f (column_of k p j) (nth p j)) (count 1 12)

@@ -1,5 +1,5 @@
 -- What an array keeps of a list: what stands at each place, and one row more. Assumes nothing.
-use Rattle.std.specs.Prelude.{List, [], ◌++◌, ◌∷◌, ◌≡◌, refl, ◌<◌, ◌≤◌, suc, zero, ℕ, get_or, length, set, take}
+use Rattle.std.specs.Prelude.{List, [], ◌++◌, ◌∷◌, ◌≡◌, refl, ◌<◌, ◌≤◌, suc, zero, ℕ, get_or, length, replicate, set, take}
 use Rattle.std.proofs.Common.{ap, arith}
 use Rattle.feeder.specs.Network.{kept}
 
@@ -53,3 +53,14 @@ unfolding kept
 take-kept d n [] h = refl
 take-kept d zero (x ∷ l) h = absurd (omega arith)
 take-kept d (suc n) (x ∷ l) h = ap (λ (r : List _). x ∷ r) (take-kept d n l (omega arith))
+
+-- an array as it is made
+pub blank-kept : {X : Type 0} (d : X) (n : ℕ) → replicate n d ≡ kept d n []
+unfolding kept
+blank-kept d zero = refl
+blank-kept d (suc n) = ap (λ (r : List _). d ∷ r) (blank-kept d n)
+
+pub get_or-blank : {X : Type 0} (d : X) (n k : ℕ) → get_or (replicate n d) k d ≡ d
+get_or-blank d zero k = refl
+get_or-blank d (suc n) zero = refl
+get_or-blank d (suc n) (suc k) = get_or-blank d n k

@@ -1,10 +1,13 @@
 // A feeder in memory: its source, branches and loads. specs/Layout.antt and specs/Feeder.antt say what a file holds and which files are refused.
 #![tactic(auto)]
 
-ghost use Rattle.std.specs.Prelude.{◌≡◌, ◌&&◌};
-ghost use Rattle.feeder.specs.Feeder.{phase_signs};
+ghost use Rattle.std.specs.Prelude.{◌≡◌, ◌&&◌, ◌+◌, ◌<◌, ◌≤◌, length};
+ghost use Rattle.feeder.specs.Feeder.{moves_taps, regulates, tapped_branch, taps_on, device_of, pair_at, phase_signs, regulator_of, three_at};
+ghost use Rattle.feeder.specs.declared.Device.TheVariants.{Transformer};
+ghost use Rattle.feeder.specs.declared.Kind.TheVariants.{L, R};
+ghost use Rattle.text.specs.Lines.{nth};
 
-use integers::Pair;
+use integers::{Pair, whole};
 
 // One for each phase.
 #[derive(Clone, Copy, PartialEq, Eq)]
@@ -193,15 +196,21 @@ pub enum Kind {
     D,
 }
 
-// What p1 to p12 are in a kind of row: a number with its least and its greatest value and the phases that it belongs to, or nothing.
+// The rows of a feeder's file in memory: as many of them as there is room for, and how many there are.
 #[derive(Clone, Copy)]
-pub enum Column {
-    Given(i64, i64, Phases),
-    Unused,
+pub struct Tables {
+    pub source: u64,
+    pub given: [i64; 8],
+    pub rows: usize,
+    pub branches: [BranchRow; 200],
+    pub count: usize,
+    pub loads: [LoadRow; 300],
 }
 
 // A feeder in memory. Node 0 is the source and node k the "to" of branch row k, so place 0 of `branches` is unused.
 // `order` has the nodes so that each comes after the one that feeds it, and `rank` each node's place there, counted from 1.
+// That it has at most 200 branch rows and 300 load rows is part of the type, so no contract asks it.
+// Both are filled in place, and not handed back by value: an answer of 40 KB would be copied by each `?` that it passes.
 #[derive(Clone, Copy)]
 pub struct Network {
     pub source: Three,
@@ -214,6 +223,233 @@ pub struct Network {
     pub loads: [Load; 300],
     pub order: [usize; 201],
     pub rank: [usize; 201],
+    ghost few_rows: { rows ≤ 200 },
+    ghost few_loads: { count ≤ 300 },
+}
+
+// Nothing on a phase, and nothing on any.
+const NONE: Pair = Pair { re: 0, im: 0 };
+
+pub const NO_THREE: Three = Three {
+    a: NONE,
+    b: NONE,
+    c: NONE,
+};
+
+pub const NO_TAPS: Taps = Taps { a: 0, b: 0, c: 0 };
+
+const NO_PHASES: Phases = Phases {
+    a: false,
+    b: false,
+    c: false,
+};
+
+// What stands where there is no row.
+const NO_BRANCH_ROW: BranchRow = BranchRow {
+    from: 0,
+    to: 0,
+    phases: NO_PHASES,
+    kind: Kind::L,
+    p: [0; 12],
+};
+
+const NO_LOAD_ROW: LoadRow = LoadRow {
+    node: 0,
+    phase: Terminals::OnA,
+    kind: LoadKind::Power,
+    vn: 0,
+    s: NONE,
+};
+
+const NO_BRANCH: Branch = Branch {
+    from: 0,
+    phases: NO_PHASES,
+    device: Device::Line(LineZ {
+        aa: NONE,
+        ab: NONE,
+        ac: NONE,
+        bb: NONE,
+        bc: NONE,
+        cc: NONE,
+    }),
+};
+
+const NO_LOAD: Load = Load {
+    node: 0,
+    phase: Terminals::OnA,
+    kind: LoadKind::Power,
+    vn: 0,
+    s: NONE,
+};
+
+impl Tables {
+    ghost use Rattle.feeder.specs.Network.{no_tables};
+
+    // With no row in them.
+    pub fn empty() -> Tables
+        ensures { result ≡ no_tables }
+    {
+        Tables {
+            source: 0,
+            given: [0; 8],
+            rows: 0,
+            branches: [NO_BRANCH_ROW; 200],
+            count: 0,
+            loads: [NO_LOAD_ROW; 300],
+        }
+    }
+}
+
+impl Network {
+    ghost use Rattle.feeder.specs.Network.{no_network};
+
+    // With no feeder in it.
+    pub fn empty() -> Network
+        ensures { result ≡ no_network }
+    {
+        Network {
+            source: NO_THREE,
+            tol: 0,
+            limit: 0,
+            rows: 0,
+            nodes: [0; 201],
+            branches: [NO_BRANCH; 201],
+            count: 0,
+            loads: [NO_LOAD; 300],
+            order: [0; 201],
+            rank: [0; 201],
+        }
+    }
+}
+
+// The number at place k, counted from 1, and the one behind it.
+pub fn pair_at(values: &[i64], k: usize) -> Pair
+    requires { (1 ≤ k) × (k < length values.now) }
+    ensures { result ≡ pair_at values.now k }
+{
+    Pair {
+        re: values[k - 1],
+        im: values[k],
+    }
+}
+
+// Six numbers from place k on, as a pair for each phase.
+pub fn three_at(values: &[i64], k: usize) -> Three
+    requires { (1 ≤ k) × (k + 4 < length values.now) }
+    ensures { result ≡ three_at values.now k }
+{
+    let a = pair_at(values, k);
+    let b = pair_at(values, k + 2);
+    let c = pair_at(values, k + 4);
+    Three { a, b, c }
+}
+
+#[tactic(auto, unfolding(crate::specs::Feeder::device_of))]
+fn line_of(p: &[i64; 12]) -> Device
+    ensures { result ≡ device_of L p.now }
+{
+    Device::Line(LineZ {
+        aa: pair_at(p, 1),
+        ab: pair_at(p, 3),
+        ac: pair_at(p, 5),
+        bb: pair_at(p, 7),
+        bc: pair_at(p, 9),
+        cc: pair_at(p, 11),
+    })
+}
+
+#[tactic(auto, unfolding(crate::specs::Feeder::device_of))]
+fn regulator_in(p: &[i64; 12]) -> Device
+    ensures { result ≡ device_of R p.now }
+{
+    let taps = Taps {
+        a: p[0],
+        b: p[1],
+        c: p[2],
+    };
+    Device::Regulator(TapChanger {
+        taps,
+        level: p[3],
+        band: p[4],
+        potential: p[5],
+        current: p[6],
+        z: pair_at(p, 8),
+    })
+}
+
+fn transformer_of(connection: Connection, p: &[i64; 12]) -> Device
+    ensures { result ≡ Transformer (record { connection = connection; n = nth p.now 1; m = nth p.now 2; z = three_at p.now 3 }) }
+{
+    Device::Transformer(Windings {
+        connection,
+        n: p[0],
+        m: p[1],
+        z: three_at(p, 3),
+    })
+}
+
+// The device that a row's kind and its p1 to p12 make.
+#[tactic(auto, unfolding(crate::specs::Feeder::device_of))]
+pub fn device_of(kind: Kind, p: &[i64; 12]) -> Device
+    ensures { result ≡ device_of kind p.now }
+{
+    match kind {
+        Kind::L => line_of(p),
+        Kind::R => regulator_in(p),
+        Kind::Y => transformer_of(Connection::Wye, p),
+        Kind::D => transformer_of(Connection::Delta, p),
+    }
+}
+
+impl Device {
+    // The regulator, where it is one.
+    pub fn regulator(&self) -> Option<TapChanger>
+        ensures { result ≡ regulator_of self.now }
+    {
+        match *self {
+            Device::Regulator(x) => Some(x),
+            Device::Line(_) | Device::Transformer(_) => None,
+        }
+    }
+
+    // Whether it is one.
+    pub fn regulates(&self) -> bool
+        ensures { result ≡ regulates self.now }
+    {
+        self.regulator().is_some()
+    }
+
+    // Its taps.
+    pub fn taps(&self) -> Taps
+        ensures { result ≡ taps_on self.now }
+    {
+        match self.regulator() {
+            Some(x) => x.taps,
+            None => NO_TAPS,
+        }
+    }
+
+    // Whether it moves them.
+    #[tactic(auto, unfolding(integers::specs::Pairs::inside))]
+    pub fn moves_taps(&self) -> bool
+        ensures { result ≡ moves_taps self.now }
+    {
+        match *self {
+            Device::Regulator(x) => !whole::inside(x.level, 0),
+            Device::Line(_) | Device::Transformer(_) => false,
+        }
+    }
+}
+
+impl Branch {
+    // Sets a regulator's taps. A line or a transformer has none.
+    pub fn set_taps(&mut self, taps: Taps)
+        ensures { self.new ≡ tapped_branch taps self.old }
+    {
+        if let Device::Regulator(x) = self.device {
+            self.device = Device::Regulator(TapChanger { taps, ..x });
+        }
+    }
 }
 
 // The signs of A, B, C, AB, BC and CA, for a load's voltage and for its current alike.

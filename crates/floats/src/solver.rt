@@ -3,25 +3,18 @@ ghost use Rattle.std.specs.Prelude.{◌<◌};
 
 use crate::component::{Quantity, far_voltages, near_currents};
 use crate::phasor::{Phasor, PhasorRows, Phasors, Solution, ZERO, no_rows, real};
-use arrays::{Branches, Loads, Places, Settings, branch_at, load_at};
-use feeder::{Load, LoadKind, PerPhase, Terminals};
+use feeder::{Load, LoadKind, Network, PerPhase, Terminals};
 use std::ops::Add;
 
-// A node's number or a number of branch rows, which is at most 200 in every feeder.
+// A node's number, which is at most 200 in every feeder.
 pub fn place(k: usize) -> usize
     ensures { result < 201 }
 {
     k.min(200)
 }
 
-// A load row's number, or a number of load rows, which is at most 300.
-pub fn load_count(k: usize) -> usize
-    ensures { result < 301 }
-{
-    k.min(300)
-}
-
 // The voltage across a load, from those of its node: that of its phase, or the first phase's minus the second's.
+// The signs are not taken from crate feeder, since the study reads them there: were one of them wrong, both would work with it.
 pub fn voltage_across(terminals: Terminals, v: Phasors) -> Phasor {
     match terminals {
         Terminals::OnA => v.a,
@@ -68,27 +61,22 @@ fn load_currents(l: Load, voltages: Phasors) -> Phasors {
     on_phases(l.phase, i, -i)
 }
 
-// What the loads draw at each node.
-fn drawn(loads: &Loads, rows: usize, v: &PhasorRows, own: &mut PhasorRows) {
-    *own = no_rows();
-    for row in 0..load_count(rows) {
-        let l = load_at(loads, row);
+// What the loads draw at each node, from its voltages: it stands in the currents.
+fn drawn(network: &Network, s: &mut Solution) {
+    s.currents = no_rows();
+    for row in 0..network.count {
+        let l = network.loads[row];
         let node = place(l.node);
-        own[node] = own[node].zip(load_currents(l, v[node]), Add::add);
+        let added = load_currents(l, s.voltages[node]);
+        s.currents[node] = s.currents[node].zip(added, Add::add);
     }
 }
 
 // The currents, from what the loads draw at each node: upward, what the branches take is added.
-fn upward(
-    branches: &Branches,
-    rows: usize,
-    order: &Places,
-    quantity: Quantity,
-    i: &mut PhasorRows,
-) {
-    for &node in order[1..place(rows) + 1].iter().rev() {
+fn upward(network: &Network, quantity: Quantity, i: &mut PhasorRows) {
+    for &node in network.order[1..network.rows + 1].iter().rev() {
         let m = place(node);
-        let b = branch_at(branches, m);
+        let b = network.branches[m];
         let n = place(b.from);
         i[n] = i[n].zip(near_currents(b, quantity, i[m]), Add::add);
     }
@@ -96,9 +84,7 @@ fn upward(
 
 // The voltages from the currents, from the source downward.
 fn downward(
-    branches: &Branches,
-    rows: usize,
-    order: &Places,
+    network: &Network,
     quantity: Quantity,
     source: Phasors,
     i: &PhasorRows,
@@ -106,9 +92,9 @@ fn downward(
 ) {
     *v = no_rows();
     v[0] = source;
-    for &node in &order[1..place(rows) + 1] {
+    for &node in &network.order[1..network.rows + 1] {
         let m = place(node);
-        let b = branch_at(branches, m);
+        let b = network.branches[m];
         v[m] = far_voltages(b, quantity, v[place(b.from)], i[m]);
     }
 }
@@ -119,49 +105,33 @@ fn still(x: Phasors, y: Phasors) -> bool {
     x.zip(y, |p, q| p.distance(q) < least).all()
 }
 
-fn all_still(rows: usize, v: &PhasorRows, w: &PhasorRows) -> bool {
-    (1..place(rows) + 1).all(|k| still(v[k], w[k]))
+fn all_still(network: &Network, v: &PhasorRows, w: &PhasorRows) -> bool {
+    (1..network.rows + 1).all(|k| still(v[k], w[k]))
 }
 
 // One sweep, from what the loads draw at each node, which the currents hold: the currents there, the voltages to which they lead, and whether these stand still.
-pub fn sweep(
-    branches: &Branches,
-    rows: usize,
-    order: &Places,
-    quantity: Quantity,
-    source: Phasors,
-    s: &mut Solution,
-) -> bool {
+pub fn sweep(network: &Network, quantity: Quantity, source: Phasors, s: &mut Solution) -> bool {
     let mut w = no_rows();
-    upward(branches, rows, order, quantity, &mut s.currents);
-    downward(branches, rows, order, quantity, source, &s.currents, &mut w);
-    let settled = all_still(rows, &s.voltages, &w);
+    upward(network, quantity, &mut s.currents);
+    downward(network, quantity, source, &s.currents, &mut w);
+    let settled = all_still(network, &s.voltages, &w);
     s.voltages = w;
     settled
 }
 
 // The solution, if 1,000 sweeps are enough. The answer is the number of sweeps. Regulators have the taps that the branches hold.
-pub fn solve(
-    settings: Settings,
-    branches: &Branches,
-    loads: &Loads,
-    order: &Places,
-    s: &mut Solution,
-) -> Option<usize> {
-    let rows = settings.rows;
-    let source = settings.source.map(Phasor::from);
+pub fn solve(network: &Network, s: &mut Solution) -> Option<usize> {
+    let source = network.source.map(Phasor::from);
     downward(
-        branches,
-        rows,
-        order,
+        network,
         Quantity::Value,
         source,
         &no_rows(),
         &mut s.voltages,
     );
     for sweeps in 1..1001 {
-        drawn(loads, settings.count, &s.voltages, &mut s.currents);
-        if sweep(branches, rows, order, Quantity::Value, source, s) {
+        drawn(network, s);
+        if sweep(network, Quantity::Value, source, s) {
             return Some(sweeps);
         }
     }

@@ -11,7 +11,7 @@ use Rattle.integers.specs.Whole.{abs-add, abs-sub, abs-mul, abs-parts, add_parts
 pub pair_eq : {x y : Pair} → x.re ≡ y.re → x.im ≡ y.im → x ≡ y
 pair_eq p q = λ i. record { re = p i; im = q i }
 
--- neither part is beyond ±m
+-- neither part is beyond ±m. Contracts ask it, and no type has it: each step of the equations has a bound of its own
 pub record Within (m : ℕ) (x : Pair) : Type 0 where
   pub re : nat_abs x.re ≤ m
   pub im : nat_abs x.im ≤ m

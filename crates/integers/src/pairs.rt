@@ -5,6 +5,7 @@ ghost use Rattle.integers.specs.PairLaws.{Within, Room};
 
 use crate::{Pair, whole};
 
+// add and sub are two functions: one operation each, and the proofs above read the value of each.
 pub fn add(x: Pair, y: Pair) -> Pair
     requires within { Within (2 ^ 61) x }
     requires within_2 { Within (2 ^ 61) y }

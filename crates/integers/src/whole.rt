@@ -7,6 +7,8 @@ ghost use Rattle.integers.specs.Root.{root, binary_digits};
 ghost use Rattle.integers.specs.RootSteps.{place_squared};
 ghost use Rattle.integers.specs.Pairs.{inside};
 
+// add and sub are two functions, and so are cross and cross_sub: one operation each, and the proofs above read `value` and `fits` of each.
+
 // Sums, differences and products whose sizes leave room. `fits` says nothing new: the proofs of callers read it.
 pub fn add(a: i64, b: i64) -> i64
     requires { nat_abs a + nat_abs b < 2 ^ 63 }

@@ -1,7 +1,8 @@
 -- The iteration over arrays is the definition's: each sweep is one step of it. Assumes nothing.
-use Rattle.std.specs.Prelude.{Bool, cond, false, not, true, List, [], ◌≡◌, refl, ◌+◌, ◌-◌, ◌<◌, ◌≤◌, suc, zero, ℕ, get_or, length, replicate, Option, Some, None, Result, Ok, Err}
-use Rattle.std.proofs.Common.{◌∙◌, ap, sym, arith}
-use Rattle.answers.specs.Answers.{Outcome, ◌>>◌, refuse_if}
+use Rattle.std.specs.Prelude.{Bool, cond, false, true, List, [], ◌≡◌, refl, ◌+◌, ◌-◌, ◌<◌, ◌≤◌, suc, zero, ℕ, get_or, length, replicate, Option, Some, None, Result, Ok, Err, OnOk}
+use Rattle.std.specs.Result.{result_or}
+use Rattle.std.proofs.Common.{◌∙◌, ap, subst, sym, arith}
+use Rattle.answers.specs.Answers.{Done, Outcome, ◌>>◌, refuse_if}
 use Rattle.answers.specs.declared.Refusal.{Refusal}
 use Rattle.answers.specs.declared.Refusal.TheVariants.{CurrentBeyond, LoadBeyond, NotSettled, VoltageBeyond, ZeroVoltage}
 use Rattle.arrays.specs.ArrayLaws.{spare-blank}
@@ -10,7 +11,6 @@ use Rattle.equations.specs.Sizes.{within3-zero}
 use Rattle.feeder.specs.Feeder.{Feeder, abc, row_count, rows_of}
 use Rattle.feeder.specs.Network.{kept}
 use Rattle.feeder.specs.Phased.{Three}
-use Rattle.integers.specs.Bools.{clash}
 use Rattle.integers.specs.ListLaws.{count-true, length-tab}
 use Rattle.integers.specs.Lists.{all, count}
 use Rattle.integers.specs.Pairs.{close}
@@ -18,10 +18,11 @@ use Rattle.iteration.specs.Ladder.{Solution, settled, solution, sweep}
 use Rattle.iteration.proofs.LadderLaws.{sweep-step}
 use Rattle.iteration.specs.Runs.{Room, SolvedAs, SweptIs, step_at, step_of, still_at}
 use Rattle.integers.specs.declared.Pair.{Pair}
-use Rattle.passes.specs.Passes.{DownwardIs}
+use Rattle.passes.specs.Passes.{DownwardIs, unless_beyond}
+use Rattle.passes.specs.declared.Beyond.{Beyond}
 use Rattle.passes.specs.Same.{Same, currents-same, drawn-same, load-beyond-same, same_kept, voltages-same, zero-voltage-same}
 use Rattle.sweeps.specs.Sweeps.{WorkedIs, refusal_of, work_of}
-use Rattle.sweeps.specs.SweepsLaws.{Workable, workable}
+use Rattle.sweeps.specs.SweepsLaws.{Workable, was-beyond, was-within, workable}
 use Rattle.sweeps.specs.declared.WorkError.{WorkError}
 
 -- ---- tests over the rows
@@ -70,6 +71,19 @@ settled_is f rows tol v w m e t h = there ∙ settled_same f {v = v} {l = v} {w 
     there : all (still_at tol v w) (count 1 rows) ≡ settled f v w
     there = λ i. all (still_at (t i) v w) (count 1 (e i))
 
+-- what holds where a pass is not refused
+on_ok : {P : Type 0} {r : Result Done Beyond} (u : Done) → r ≡ Ok u → OnOk r P → P
+on_ok {P} u e h = subst (λ (y : Result Done Beyond). OnOk y P) e h
+
+-- a pass that is refused by 33, as `or` says it
+pub or-ok : (r : Result Done Beyond) (y : Refusal) (u : Done) → Ok u ≡ result_or r (Err y) → r ≡ Ok u
+or-ok (Ok w) y u e = refl
+or-ok (Err x) y u e = let z : ◌≡◌ {A = ℕ} 0 1 = cc in absurd (omega arith)
+
+pub or-err : (r : Result Done Beyond) (y x : Refusal) → Err x ≡ result_or r (Err y) → (r ≡ Err (record {})) × (x ≡ y)
+or-err (Ok w) y x e = let z : ◌≡◌ {A = ℕ} 0 1 = cc in absurd (omega arith)
+or-err (Err b) y x e = (refl, cc)
+
 -- ---- a sweep
 -- one of 30 to 32
 pub swept-refused : (f : Feeder) (v : List Three) (k : ℕ) (next i : List Three) (x : WorkError) → WorkedIs f v (Err x) i → SweptIs f v k (Err (refusal_of x k)) next i
@@ -85,7 +99,7 @@ swept-refused f v k next i x of = record { step_is = go (zero_voltage f v) (load
     go false false false d s p e = let z : ◌≡◌ {A = ℕ} 0 1 = cc in absurd (omega arith)
 
 -- 33, and whether the voltages settled
-module _ (f : Feeder) (v : List Three) (drawn : Pair) (i : List Three) (of : WorkedIs f v (Ok drawn) i) (few : row_count f ≤ 200) (ok : Bool) (next : List Three) (down : DownwardIs f i ok next) where
+module _ (f : Feeder) (v : List Three) (drawn : Pair) (i : List Three) (of : WorkedIs f v (Ok drawn) i) (few : row_count f ≤ 200) (r : Result Done Beyond) (next : List Three) (down : DownwardIs f i r next) where
   work : Workable f v drawn i
   work = workable f v drawn i of
 
@@ -93,31 +107,28 @@ module _ (f : Feeder) (v : List Three) (drawn : Pair) (i : List Three) (of : Wor
   far : voltages f i ≡ voltages f (currents f v)
   far = voltages-same f (same-array i (currents f v) work.currents-are (currents-short f v few))
 
-  high_is : ok ≡ not (voltage_beyond f (voltages f (currents f v)))
-  high_is = rw far at down.ok-is
+  high_is : r ≡ unless_beyond (voltage_beyond f (voltages f (currents f v)))
+  high_is = rw far at down.answer-is
 
-  turned : (b c : Bool) → ok ≡ not b → ok ≡ c → b ≡ not c
-  turned true true e q = sym (sym e ∙ q)
-  turned true false e q = refl
-  turned false true e q = refl
-  turned false false e q = sym (sym e ∙ q)
+  stored : (u : Done) → r ≡ Ok u → next ≡ kept zero3 201 (voltages f (currents f v))
+  stored u o = rw far at (on_ok u o down.at-is)
 
-  pub same_next : ok ≡ true → Same next (voltages f (currents f v))
-  same_next o = same-array next (voltages f (currents f v)) (rw far at (down.at-is o)) (voltages-short f (currents f v) few)
+  pub same_next : (u : Done) → r ≡ Ok u → Same next (voltages f (currents f v))
+  same_next u o = same-array next (voltages f (currents f v)) (stored u o) (voltages-short f (currents f v) few)
 
   module _ (k : ℕ) where
     -- the step where none of 30 to 32 holds
     late : (d s : Bool) → voltage_beyond f (voltages f (currents f v)) ≡ d → settled f v (voltages f (currents f v)) ≡ s → step_at f v k ≡ step_of k false false false d s drawn
     late d s q t = rw (work.t30, work.t31, work.t32, q, t, ← work.drawn-is) refl
 
-    pub swept-high : ok ≡ false → SweptIs f v k (Err (VoltageBeyond k)) next i
-    swept-high o = record { step_is = sym (late true _ (turned _ false high_is o) refl); arrays-are = tt }
+    pub swept-high : (x : Beyond) → r ≡ Err x → SweptIs f v k (Err (VoltageBeyond k)) next i
+    swept-high x o = record { step_is = sym (late true _ (was-beyond _ x (sym high_is ∙ o)) refl); arrays-are = tt }
 
-    pub swept-settled : ok ≡ true → settled f v (voltages f (currents f v)) ≡ true → SweptIs f v k (Ok (Some drawn)) next i
-    swept-settled o t = record { step_is = sym (late false true (turned _ true high_is o) t); arrays-are = work.currents-are }
+    pub swept-settled : (u : Done) → r ≡ Ok u → settled f v (voltages f (currents f v)) ≡ true → SweptIs f v k (Ok (Some drawn)) next i
+    swept-settled u o t = record { step_is = sym (late false true (was-within _ u (sym high_is ∙ o)) t); arrays-are = work.currents-are }
 
-    pub swept-again : ok ≡ true → settled f v (voltages f (currents f v)) ≡ false → SweptIs f v k (Ok None) next i
-    swept-again o t = record { step_is = sym (late false false (turned _ true high_is o) t); arrays-are = rw far at (down.at-is o) }
+    pub swept-again : (u : Done) → r ≡ Ok u → settled f v (voltages f (currents f v)) ≡ false → SweptIs f v k (Ok None) next i
+    swept-again u o t = record { step_is = sym (late false false (was-within _ u (sym high_is ∙ o)) t); arrays-are = stored u o }
 
 -- ---- the iteration
 -- what the definition makes of a step
@@ -149,30 +160,23 @@ pub record Here (f : Feeder) (k : ℕ) (v : List Three) : Type 0 where
   pub short : length list ≤ 201
   pub rest : sweep f ((f.limit + 1) - k) k list ≡ solution f
 
-pub here-start : (f : Feeder) (z : List Three) (ok : Bool) (v : List Three) → row_count f ≤ 200 → Same z [] → DownwardIs f z ok v → ok ≡ true → Here f 1 v
+pub here-start : (f : Feeder) (z : List Three) (r : Result Done Beyond) (v : List Three) → row_count f ≤ 200 → Same z [] → DownwardIs f z r v → (u : Done) → r ≡ Ok u → Here f 1 v
 unfolding solution
-here-start f z ok v few none down o =
+here-start f z r v few none down u o =
     let e = voltages-same f none in
+    let b : voltage_beyond f (voltages f []) ≡ false = was-within _ u (sym (rw e at down.answer-is) ∙ o) in
     record {
       list = voltages f [];
-      stored = rw e at (down.at-is o);
+      stored = rw e at (on_ok u o down.at-is);
       short = voltages-short f [] few;
-      rest = let w : (f.limit + 1) - 1 ≡ f.limit = omega arith in rw w (first (voltage_beyond f (voltages f [])) (rw e at down.ok-is) (sweep f f.limit 1 (voltages f [])));
+      rest = let w : (f.limit + 1) - 1 ≡ f.limit = omega arith in rw (w, b) refl;
     }
-  where
-    first : (b : Bool) → ok ≡ not b → (y : Outcome Solution) → y ≡ (refuse_if b (VoltageBeyond 0) >> y)
-    first true q y = clash (ok) o q
-    first false q y = refl
 
-pub no_start : (f : Feeder) (z : List Three) (ok : Bool) (v : List Three) → Same z [] → DownwardIs f z ok v → ok ≡ false → solution f ≡ Err (VoltageBeyond 0)
+pub no_start : (f : Feeder) (z : List Three) (r : Result Done Beyond) (v : List Three) → Same z [] → DownwardIs f z r v → (x : Beyond) → r ≡ Err x → solution f ≡ Err (VoltageBeyond 0)
 unfolding solution
-no_start f z ok v none down o =
-    let e = voltages-same f none in
-    first (voltage_beyond f (voltages f [])) (rw e at down.ok-is) _
-  where
-    first : (b : Bool) → ok ≡ not b → (y : Outcome Solution) → (refuse_if b (VoltageBeyond 0) >> y) ≡ Err (VoltageBeyond 0)
-    first true q y = refl
-    first false q y = clash (ok) q o
+no_start f z r v none down x o =
+    let b : voltage_beyond f (voltages f []) ≡ true = was-beyond _ x (sym (rw (voltages-same f none) at down.answer-is) ∙ o) in
+    rw b refl
 
 -- a study that is refused, and one that is solved
 pub solved-refused : (f : Feeder) (y : Refusal) (v i : List Three) → solution f ≡ Err y → SolvedAs f (solution f) (Err y) v i

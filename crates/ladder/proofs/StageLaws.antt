@@ -26,8 +26,7 @@ use Rattle.ladder.specs.declared.Written.{Written}
 use Rattle.passes.specs.Passes.{LossesAre}
 use Rattle.passes.specs.Same.{Same, loss-same, lost-same, source-same}
 use Rattle.report_writer.specs.ReportIs.{Shown}
-use Rattle.report_writer.specs.Tables.{Given}
-use Rattle.report_lines.specs.declared.Figures.{Figures}
+use Rattle.report_writer.specs.Tables.{Linked}
 use Rattle.rounds.specs.Rounds.{Regulated, regulated}
 use Rattle.rounds.specs.Turns.{RegulatedAs}
 use Rattle.sweeps.specs.Sweeps.{Known}
@@ -84,11 +83,8 @@ unfolding fitted_from
 from-regulated f out y r last e h = study-same {p = fitted_with y.feeder y.solution (length out)} (rw e) h
 
 -- ---- the report of a solution
-pub given : {g : Network} → Known g → (x : Figures) → x.sweeps ≤ 100 → Given g.branches g.rows x
-given {g} known x h =
-    let w = known.arranged.linked in
-    let n = w.few in
-    record { few = n; from = λ k p q. (let e : (get_or g.branches k no_branch).from < g.rows + 1 = w.from k (omega arith) in omega arith); sweeps = omega arith }
+pub linked : {g : Network} → Known g → Linked g
+linked {g} known = λ k p q. (let w = known.arranged.linked in let n = w.few in let e : (get_or g.branches k no_branch).from < g.rows + 1 = w.from k (omega arith) in omega arith)
 
 pub source_is : {f : Feeder} {g : Network} → Held f g → (i : List Three) (p : Pair) → p ≡ power g.source (get_or i 0 zero3) → p ≡ source_power f i
 unfolding source_power
@@ -131,10 +127,9 @@ module _ {g : Network} (known : Known g) (f : Feeder) (held : Held f g) (x : Sol
   same-i : Same i x.currents
   same-i = same-array i x.currents run.currents-are run.few-currents
 
-  pub shown : (source : Pair) → source ≡ source_power f i → (k : ℕ) → Shown f x.voltages x.currents g.nodes g.branches g.rows v i l (record { sweeps = k; source = source; drawn = drawn; lost = sum })
-  shown source e k = record {
+  pub shown : (source : Pair) → source ≡ source_power f i → (k : ℕ) (signed : k < 9223372036854775808) → Shown f x.voltages x.currents g v i l (record { sweeps = k; source = source; drawn = drawn; lost = sum; signed = signed })
+  shown source e k signed = record {
     count = held.rows;
-    few = held.few-rows;
     names = held.nodes;
     held = held.branches;
     from = λ j p q. (let n = held.rows in let m = held.few-rows in let w : (get_or g.branches j no_branch).from < g.rows + 1 = known.arranged.linked.from j (omega arith) in let b : (get_or g.branches j no_branch).from ≡ parent f j = ap (λ b. b.from) (branch_held j) in omega arith);

@@ -2,19 +2,21 @@
 #![tactic(auto)]
 
 ghost use Rattle.std.specs.Prelude.{◌≡◌, ◌≤◌, length, Ok};
-ghost use Rattle.arrays.specs.Arrays.{network_of, threes_of};
 ghost use Rattle.feeder.specs.Feeder.{Feeder};
 ghost use Rattle.feeder.specs.Network.{Held};
 ghost use Rattle.iteration.specs.Ladder.{Solution};
 ghost use Rattle.iteration.specs.Runs.{GoodRun};
 ghost use Rattle.ladder.specs.Stages.{StudyAs, fitted_from, fitted_with};
 ghost use Rattle.ladder.specs.Study.{StudyGood, StudyPoints, StudyTold, buffer_of, fitted, study_of};
+ghost use Rattle.sweeps.specs.Retapped.{BranchesAlone};
 ghost use Rattle.sweeps.specs.Sweeps.{Known, SmallCurrents};
 
 use answers::Refusal;
-use arrays::{Branches, Loads, Names, Places, Settings, Threes, three_at};
+use arrays::Threes;
 use devices::power;
+use feeder::{NO_THREE, Network};
 use integers::Pair;
+use iteration::Run;
 use passes::loss_pass;
 use reading::read_into;
 use report_lines::Figures;
@@ -30,64 +32,46 @@ pub struct Written {
 
 // The report of a solution, where the buffer has room for it.
 fn write_solution(
-    settings: Settings,
-    nodes: &Names,
-    branches: &Branches,
-    loads: &Loads,
-    order: &Places,
-    rank: &Places,
-    sweeps: usize,
+    network: &Network,
+    run: Run,
     v: &Threes,
     i: &Threes,
-    drawn: Pair,
     out: &mut [u8],
 ) -> Result<Written, Refusal>
-    requires known { Known (network_of settings nodes.now branches.now loads.now order.now rank.now) }
-    requires small_currents { SmallCurrents settings.rows (threes_of i.now) }
-    requires sweeps_bound { sweeps ≤ 100 }
-    ensures { (f : Feeder) (x : Solution) → Held f (network_of settings nodes.now branches.now loads.now order.now rank.now) → sweeps ≡ x.sweeps → GoodRun f x (threes_of v.now) (threes_of i.now) drawn → StudyAs (fitted_with f x (length out.old)) out.old result out.new }
+    requires known { Known network.now }
+    requires small_currents { SmallCurrents network.now.rows i.now }
+    requires sweeps_bound { run.sweeps ≤ 100 }
+    ensures { (f : Feeder) (x : Solution) → Held f network.now → run.sweeps ≡ x.sweeps → GoodRun f x v.now i.now run.drawn → StudyAs (fitted_with f x (length out.old)) out.old result out.new }
 {
-    let rows = settings.rows;
-    let mut losses = [[0i64; 2]; 201];
-    let lost = loss_pass(branches, rows, i, &mut losses);
-    let taken = three_at(i, 0);
-    let from = settings.source;
-    let source = power(from, taken);
+    let mut losses = [Pair { re: 0, im: 0 }; 201];
+    let lost = loss_pass(network, i, &mut losses);
     let figures = Figures {
-        sweeps,
-        source,
-        drawn,
+        sweeps: run.sweeps,
+        source: power(network.source, i[0]),
+        drawn: run.drawn,
         lost,
     };
-    let need = report_width(nodes, branches, rows, v, i, &losses, figures);
+    let need = report_width(network, v, i, &losses, figures);
     if out.len() < need {
         return Err(Refusal::BufferShort(need));
     }
-    let length = put_report(out, nodes, branches, rows, v, i, &losses, figures);
-    Ok(Written { length, sweeps })
+    let length = put_report(out, network, v, i, &losses, figures);
+    Ok(Written {
+        length,
+        sweeps: run.sweeps,
+    })
 }
 
-// The study of a feeder in memory. The rounds move the taps of a copy of its branches, and the report is of that copy.
-pub fn study_network(
-    settings: Settings,
-    nodes: &Names,
-    branches: &mut Branches,
-    loads: &Loads,
-    order: &Places,
-    rank: &Places,
-    out: &mut [u8],
-) -> Result<Written, Refusal>
-    requires { Known (network_of settings nodes.now branches.old loads.now order.now rank.now) }
-    ensures { (f : Feeder) → Held f (network_of settings nodes.now branches.old loads.now order.now rank.now) → StudyAs (fitted_from f (length out.old)) out.old result out.new }
+// The study of a feeder in memory. The rounds move the taps of its branches, and the report is of these.
+pub fn study_network(network: &mut Network, out: &mut [u8]) -> Result<Written, Refusal>
+    requires { Known network.old }
+    ensures study { (f : Feeder) → Held f network.old → StudyAs (fitted_from f (length out.old)) out.old result out.new }
+    ensures rest { BranchesAlone network.old network.new }
 {
-    let mut v = [[0i64; 6]; 201];
-    let mut i = [[0i64; 6]; 201];
-    let run = regulate(
-        settings, nodes, branches, loads, order, rank, &mut v, &mut i,
-    )?;
-    write_solution(
-        settings, nodes, branches, loads, order, rank, run.sweeps, &v, &i, run.drawn, out,
-    )
+    let mut v = [NO_THREE; 201];
+    let mut i = [NO_THREE; 201];
+    let run = regulate(network, &mut v, &mut i)?;
+    write_solution(network, run, &v, &i, out)
 }
 
 // The study of a feeder file: its report is written from the start of `out`, and after a refusal `out` holds what it held.
@@ -98,18 +82,7 @@ pub fn study_feeder(feeder: &[u8], out: &mut [u8]) -> Result<Written, Refusal>
     ensures told { StudyTold (fitted feeder.now (length out.old)) result }
     ensures first { StudyPoints feeder.now result }
 {
-    let mut nodes = [0u64; 201];
-    let mut branches = [[0i64; 17]; 201];
-    let mut loads = [[0i64; 6]; 300];
-    let mut order = [0usize; 201];
-    let mut rank = [0usize; 201];
-    let settings = read_into(
-        feeder,
-        &mut nodes,
-        &mut branches,
-        &mut loads,
-        &mut order,
-        &mut rank,
-    )?;
-    study_network(settings, &nodes, &mut branches, &loads, &order, &rank, out)
+    let mut network = Network::empty();
+    read_into(feeder, &mut network)?;
+    study_network(&mut network, out)
 }

@@ -1,13 +1,14 @@
 -- The columns of a row, one after the other. Assumes nothing.
-use Rattle.std.specs.Prelude.{Bool, ◌&&◌, cond, false, true, List, [], ◌∷◌, ◌≡◌, refl, negsuc, neg_ℤ, pos, ℤ, get_or, length, take}
+use Rattle.std.specs.Prelude.{Bool, ◌&&◌, cond, false, true, List, [], ◌∷◌, ◌≡◌, refl, negsuc, neg_ℤ, pos, ℤ, get_or, length, take, None}
 use Rattle.std.proofs.Common.{◌∙◌, ap, ext_get_or, get_or-take, length-take-le}
 use Rattle.std.proofs.Math.Path.{sym}
+use mathlib.Core.Logic.{◌⊎◌, inl, inr}
 use Prim.Native.Nat.{◌+◌, ◌-◌, ◌<◌, ◌≤◌, suc, zero, ℕ}
 use native.Mathlib.Omega.{arith}
 use Rattle.std.proofs.Math.Dec.{leb-suc-zero, leb-zero}
 use Rattle.feeder.specs.Feeder.{between, branch_in, column_of, centivolts, impedance, in_limit, no_phases, ratio, zero_if_due, zeros}
-use Rattle.feeder.specs.declared.Column.TheVariants.{Unused}
-use Rattle.feeder.specs.declared.Kind.TheVariants.{L, R, Y}
+use Rattle.feeder.specs.declared.Kind.{Kind}
+use Rattle.feeder.specs.declared.Kind.TheVariants.{D, L, R, Y}
 use Rattle.feeder.specs.Phased.{Phases}
 use Rattle.integers.specs.ListLaws.{get_or-tab, length-tab}
 use Rattle.integers.specs.Lists.{all, count, tab}
@@ -83,7 +84,7 @@ unfolding branch_in all_between all_zero column_of all count tab
 regulator_in p = go (inside 0 (nth p 4)) (between (neg_ℤ (pos 16)) (pos 16) (nth p 1)) (between (neg_ℤ (pos 16)) (pos 16) (nth p 2)) (between (neg_ℤ (pos 16)) (pos 16) (nth p 3)) (between (pos 0) (pos 20000) (nth p 4))
   where
     relay : Bool → ℕ → Bool
-    relay c j = in_limit (get_or (cond c [] (centivolts ∷ ratio ∷ ratio ∷ impedance no_phases ∷ impedance no_phases ∷ [])) j Unused) (nth p (5 + j))
+    relay c j = in_limit (get_or (cond c [] (centivolts ∷ ratio ∷ ratio ∷ impedance no_phases ∷ impedance no_phases ∷ [])) j None) (nth p (5 + j))
 
     go : (c x y z w : Bool) → (x && (y && (z && (w && (relay c 0 && (relay c 1 && (relay c 2 && (relay c 3 && (relay c 4 && (relay c 5 && (relay c 6 && (relay c 7 && true))))))))))))
         ≡ ((x && (y && (z && true))) && ((w && true) && cond (c && true) true ((relay false 0 && true) && ((relay false 1 && (relay false 2 && true)) && (relay false 3 && (relay false 4 && true))))))
@@ -100,9 +101,9 @@ unfolding inside
 between-zero (pos n) = simp leb-zero
 between-zero (negsuc n) = simp leb-suc-zero
 
-pub zero-between : (p : List ℤ) (first last : ℕ) → all_between (pos 0) (pos 0) p first last ≡ all_zero p first last
+pub zero_between : (p : List ℤ) (first last : ℕ) → all_between (pos 0) (pos 0) p first last ≡ all_zero p first last
 unfolding all_between all_zero
-zero-between p first last = simp between-zero
+zero_between p first last = simp between-zero
 
 abbrev pub zero_unless : Bool → Bool → List ℤ → ℕ → ℕ → Bool
 zero_unless x y p first last = cond (x && y) true (all_zero p first last)
@@ -145,16 +146,18 @@ regulator_zeros f p =
     ∙ ap (λ (b : Bool). zero_unless f.c f.c p 3 3 && b) (go (inside 0 (nth p 4)))))
   where
     relay : Bool → ℕ → Bool
-    relay c j = zero_if_due f (get_or (cond c [] (centivolts ∷ ratio ∷ ratio ∷ impedance no_phases ∷ impedance no_phases ∷ [])) j Unused) (nth p (5 + j))
+    relay c j = zero_if_due f (get_or (cond c [] (centivolts ∷ ratio ∷ ratio ∷ impedance no_phases ∷ impedance no_phases ∷ [])) j None) (nth p (5 + j))
 
     go : (c : Bool) → (relay c 0 && (relay c 1 && (relay c 2 && (relay c 3 && (relay c 4 && (relay c 5 && (relay c 6 && (relay c 7 && true))))))))
         ≡ cond (c && true) (relay true 0 && (relay true 1 && (relay true 2 && (relay true 3 && (relay true 4 && (relay true 5 && (relay true 6 && (relay true 7 && true)))))))) (relay true 5 && (relay true 6 && (relay true 7 && true)))
     go true = refl
     go false = refl
 
-pub transformer-zeros : (f : Phases) (p : List ℤ) → zeros Y f p ≡ all_zero p 9 12
+-- D has the columns of Y
+pub transformer-zeros : (k : Kind) (f : Phases) (p : List ℤ) → (k ≡ Y) ⊎ (k ≡ D) → zeros k f p ≡ all_zero p 9 12
 unfolding zeros all_zero column_of all count tab
-transformer-zeros f p = refl
+transformer-zeros k f p (inl e) = ap (λ (j : Kind). zeros j f p) e
+transformer-zeros k f p (inr e) = ap (λ (j : Kind). zeros j f p) e
 
 -- ---- the first n of a list, by their places counted from 1
 all-places : {X : Type 0} (f : X → Bool) (g : ℕ → X) (k n : ℕ) → all f (tab g k n) ≡ all (λ j. f (g j)) (count k n)

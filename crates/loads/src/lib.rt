@@ -14,12 +14,14 @@ use devices::threes;
 use feeder::{Load, LoadKind, Three, signs_of};
 use integers::{Pair, pairs, whole};
 
-// Why a load row draws nothing: document 01's refusals 30 and 31.
+// Why a load row draws nothing: document 01's refusals 30 and 31. An error enum, the Err of a Result, and not of the shape of Option: it says which of the two.
 #[derive(Clone, Copy, PartialEq, Eq)]
 pub enum LoadError {
     ZeroVoltage,
     Beyond,
 }
+
+// voltage_on and spread are alike but for what they do with the signs, and the promise: the one makes one voltage of three, the other three currents of one.
 
 // The voltage at which the row stands: its phase's, or the first phase's minus the second's.
 pub fn voltage_on(l: Load, v: Three) -> Pair
@@ -40,6 +42,8 @@ pub fn spread(l: Load, i: Pair) -> Three
     let s = signs_of(phase);
     threes::spread(s, i)
 }
+
+// The matches on a kind in weigh, acts_as and lacks_voltage: each arm gives a value of the subject, and none is a step to run.
 
 // w, by which conj(S)·V is divided.
 fn weigh(kind: LoadKind, vn: i64, u: Pair) -> u64

@@ -1,5 +1,5 @@
 -- A file's rows, and the arrays that hold them by node numbers. Assumes nothing.
-use Rattle.std.specs.Prelude.{Bool, ◌&&◌, cond, false, true, List, [], ◌∷◌, ◌≡◌, ℤ, drop, get_or, length, take, None}
+use Rattle.std.specs.Prelude.{Bool, ◌&&◌, cond, false, true, List, ◌∷◌, ◌≡◌, ℤ, get_or, length, map, take, None}
 use Rattle.std.proofs.Math.Bool.{not}
 use Rattle.std.proofs.Common.{◌∙◌, sym, add-one}
 use Rattle.std.proofs.Math.Path.{ap, refl}
@@ -10,11 +10,9 @@ use Rattle.std.proofs.Math.Dec.{ltb}
 use Rattle.std.proofs.Math.ListN.{get_or-eq_default}
 use Rattle.std.proofs.lemmas.List.{length-map}
 use borrow.Author.Tests.{le-ltb, lt-ltb, ltb-false, ne_eqb}
-use Rattle.arrays.specs.ArrayLaws.{branch-at as row_at, branches-numbered, loads-numbered}
-use Rattle.arrays.specs.Arrays.{branch_of as row_of, branches_of, kind_of, loads_of, numbered_branches, numbered_loads, to_names}
 use Rattle.feeder.specs.Feeder.{all_of, branch_at, branch_of, device_of, feeder_of, first_row, known, load_of, no_branch, no_phases, nodes_of, or_else, parent, phase_absent, phases_of, place_of, second_to, stands_on, three_phase, unknown_from}
 use Rattle.feeder.specs.Layout.{Rows}
-use Rattle.feeder.specs.Network.{no_load}
+use Rattle.feeder.specs.Network.{kept, no_load}
 use Rattle.feeder.specs.NetworkLaws.{get_or_kept, take-kept}
 use Rattle.feeder.specs.RowLaws.{none-bad}
 use Rattle.feeder.specs.declared.Branch.{Branch}
@@ -26,7 +24,6 @@ use Rattle.feeder.specs.declared.Terminals.{Terminals}
 use Rattle.feeder.specs.declared.Terminals.TheVariants.{AB, BC, CA, OnA, OnB, OnC}
 use Rattle.integers.specs.Lists.{all}
 use Rattle.integers.specs.Pairs.{inside}
-use Rattle.text.specs.Lines.{nth}
 use Rattle.names.specs.Numbered.{branch_absent, branches_in, from_unknown, load_absent, loads_in, nodes_in, phases_in, three_phase_of, to_second}
 use Rattle.names.specs.Rest.{first-image, rest}
 
@@ -46,10 +43,6 @@ threes L p f = refl
 threes R p f = refl
 threes Y p f = refl
 threes D p f = refl
-
-pub three-at : (l : List (List ℤ)) (k : ℕ) (f : Phases) → three_phase_of (get_or (branches_of l) k no_branch).device f ≡ three_phase (kind_of (nth (get_or l k []) 5)) f
-unfolding row_of
-three-at l k f = rw (row_at l k) (threes (kind_of (nth (get_or l k []) 5)) (drop 5 (get_or l k [])) f)
 
 has-none : (p : Terminals) → all_of (stands_on p) no_phases ≡ false
 unfolding all inside
@@ -77,7 +70,7 @@ module _ (r : Rows) (count : ℕ) (size : count ≡ length r.branches) where
 
   module _ (few : count ≤ 200) where
     -- the names
-    pub take-nodes : take (count + 1) (nodes_in r) ≡ nodes_of r
+    take-nodes : take (count + 1) (nodes_in r) ≡ nodes_of r
     take-nodes = rw (sym length-nodes) (take-kept 0 201 (nodes_of r) (rw length-nodes (omega arith)))
 
     -- the branches from place 0 on
@@ -88,17 +81,13 @@ module _ (r : Rows) (count : ℕ) (size : count ≡ length r.branches) where
     take-branches = rw (sym whole) (take-kept no_branch 201 (no_branch ∷ (feeder_of r).branches) (rw whole (omega arith)))
 
     -- what the calls fill the arrays with
-    pub nodes-kept : to_names r.source r.branches ≡ nodes_in r
-    unfolding nodes_of
-    nodes-kept = refl
-
-    pub branches-kept : branches_of (numbered_branches (take (count + 1) (nodes_in r)) r.branches) ≡ branches_in r
+    pub branches-kept : kept no_branch 201 (no_branch ∷ map (branch_of (take (count + 1) (nodes_in r))) r.branches) ≡ branches_in r
     unfolding feeder_of
-    branches-kept = branches-numbered (take (count + 1) (nodes_in r)) r.branches ∙ rw take-nodes
+    branches-kept = rw take-nodes
 
-    pub loads-kept : loads_of (numbered_loads (take (count + 1) (nodes_in r)) r.loads) ≡ loads_in r
+    pub loads-kept : kept no_load 300 (map (load_of (take (count + 1) (nodes_in r))) r.loads) ≡ loads_in r
     unfolding feeder_of
-    loads-kept = loads-numbered (take (count + 1) (nodes_in r)) r.loads ∙ rw take-nodes
+    loads-kept = rw take-nodes
 
     -- each branch, and each from-number
     pub branch-at : (k : ℕ) → get_or (branches_in r) k no_branch ≡ branch_at (feeder_of r) k

@@ -2,15 +2,14 @@
 use Rattle.std.specs.Prelude.{List, [], ◌≡◌, ◌%◌, ◌+◌, ◌<◌, ◌≤◌, suc, zero, ℕ, get_or, length, replicate, set, take}
 use Rattle.std.proofs.Common.{◌∙◌, ap, sym, add-one, arith, get_or-set_other, get_or-set_same}
 use Rattle.std.proofs.Math.Decide.{ℕ_discrete}
-use Rattle.arrays.specs.ArrayLaws.{blank-kept}
 use Rattle.feeder.specs.Feeder.{place_of}
-use Rattle.feeder.specs.NetworkLaws.{get_or_kept}
+use Rattle.feeder.specs.NetworkLaws.{blank-kept, get_or_kept}
 use Rattle.names.specs.Rest.{place_here, place-next, rest}
 
 abbrev pub slot_of : ℕ → ℕ
 slot_of name = name % 4093
 
--- the slot of each name from place i on holds that place or one before it
+-- the slot of each name from place i on holds that place or one before it.
 pub record SlottedFrom (i : ℕ) (names slots : List ℕ) : Type 0 where
   pub held : (j : ℕ) → i ≤ j → get_or slots (slot_of (get_or names j 0)) 0 ≤ j
 

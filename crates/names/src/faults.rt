@@ -1,25 +1,21 @@
 // Refusals 20, 21 and 23: the first line with each fault, by node numbers. Branch row k stands in line 4 + k.
 ghost use Rattle.std.specs.Prelude.{◌≡◌, ℕ, ◌+◌, ◌<◌, ◌≤◌, cond, true, get_or, length, take};
-ghost use Rattle.arrays.specs.Arrays.{branches_of, loads_of};
-ghost use Rattle.feeder.specs.Feeder.{all_of, first_row, no_branch, phase_absent, second_to, stands_on, three_phase, unknown_from};
+ghost use Rattle.feeder.specs.Feeder.{all_of, first_row, no_branch, phase_absent, second_to, stands_on, unknown_from};
 ghost use Rattle.feeder.specs.Layout.{Rows};
-ghost use Rattle.names.specs.Numbered.{branch_absent, branches_in, load_absent, loads_in, node_phases, nodes_in};
+ghost use Rattle.names.specs.Numbered.{branch_absent, branches_in, load_absent, loads_in, node_phases, nodes_in, three_phase_of};
 ghost use Rattle.names.specs.Rest.{rest};
 ghost use Rattle.names.specs.Slots.{Slotted};
 
 use crate::find;
-use arrays::{Branches, Loads, Names, from_at, kind_of, load_at, phases_at};
-use feeder::{Kind, Phases, Terminals, signs_of};
+use feeder::{Device, Network, Phases, Terminals, signs_of};
 use integers::whole;
 
-// 20: a from-name that no node has got the number behind the last, count + 1.
-pub fn first_unknown_from(branches: &Branches, count: usize) -> Option<usize>
-    requires { count ≤ 200 }
-    ensures { (r : Rows) → branches_of branches.now ≡ branches_in r → count ≡ length r.branches → result ≡ unknown_from r }
+// 20: a from-name that no node has got the number behind the last, rows + 1.
+pub fn first_unknown_from(network: &Network) -> Option<usize>
+    ensures { (r : Rows) → network.now.branches ≡ branches_in r → network.now.rows ≡ length r.branches → result ≡ unknown_from r }
 {
-    for k in 1..count + 1 {
-        let from = from_at(branches, k);
-        if count < from {
+    for k in 1..network.rows + 1 {
+        if network.rows < network.branches[k].from {
             return Some(4 + k);
         }
     }
@@ -27,13 +23,12 @@ pub fn first_unknown_from(branches: &Branches, count: usize) -> Option<usize>
 }
 
 // 21: the name of node k stands before place k.
-pub fn first_second_to(nodes: &Names, count: usize, slots: &[u8; 4093]) -> Option<usize>
-    requires count_bound { count ≤ 200 }
-    requires slotted { Slotted nodes.now slots.now }
-    ensures { (r : Rows) → nodes.now ≡ nodes_in r → count ≡ length r.branches → result ≡ second_to r }
+pub fn first_second_to(network: &Network, slots: &[u8; 4093]) -> Option<usize>
+    requires { Slotted network.now.nodes slots.now }
+    ensures { (r : Rows) → network.now.nodes ≡ nodes_in r → network.now.rows ≡ length r.branches → result ≡ second_to r }
 {
-    for k in 1..count + 1 {
-        let place = find(nodes[k], nodes, count + 1, slots);
+    for k in 1..network.rows + 1 {
+        let place = find(network.nodes[k], &network.nodes, network.rows + 1, slots);
         if place < k {
             return Some(4 + k);
         }
@@ -53,7 +48,7 @@ fn covers(f: bool, g: bool) -> bool
 fn all_of(f: Phases, g: Phases) -> bool
     ensures { result ≡ all_of f g }
 {
-    covers(f.a, g.a) && covers(f.b, g.b) && covers(f.c, g.c)
+    f.zip(g, covers).all()
 }
 
 // The phases that a load stands on: those whose sign is not 0.
@@ -89,30 +84,24 @@ fn node_phases(k: usize, f: Phases) -> Phases
 }
 
 // A transformer has all phases.
-fn three_phase(kind: Kind, f: Phases) -> bool
-    ensures { result ≡ three_phase kind f }
+fn three_phase(device: Device, f: Phases) -> bool
+    ensures { result ≡ three_phase_of device f }
 {
-    match kind {
-        Kind::L | Kind::R => true,
-        Kind::Y | Kind::D => all_of(ALL, f),
+    match device {
+        Device::Line(_) | Device::Regulator(_) => true,
+        Device::Transformer(_) => all_of(ALL, f),
     }
 }
 
 // 23, of a branch: its phases are not all at its from-node, or it is a transformer without all.
-fn first_branch_absent(branches: &Branches, count: usize) -> Option<usize>
-    requires count_bound { count ≤ 200 }
-    requires by_index { (k : ℕ) → (get_or (branches_of branches.now) k no_branch).from ≤ count }
-    ensures { length (branches_of branches.now) ≡ 201 → result ≡ first_row (branch_absent (branches_of branches.now)) 4 1 (rest 1 (count + 1) (branches_of branches.now)) }
+fn first_branch_absent(network: &Network) -> Option<usize>
+    requires { (k : ℕ) → (get_or network.now.branches k no_branch).from ≤ network.now.rows }
+    ensures { result ≡ first_row (branch_absent network.now.branches) 4 1 (rest 1 (network.now.rows + 1) network.now.branches) }
 {
-    for k in 1..count + 1 {
-        let from = from_at(branches, k);
-        let there = node_phases(from, phases_at(branches, from));
-        let phases = phases_at(branches, k);
-        if !all_of(phases, there) {
-            return Some(4 + k);
-        }
-        let kind = kind_of(branches[k][4]);
-        if !three_phase(kind, phases) {
+    for k in 1..network.rows + 1 {
+        let b = &network.branches[k];
+        let there = node_phases(b.from, network.branches[b.from].phases);
+        if !all_of(b.phases, there) || !three_phase(b.device, b.phases) {
             return Some(4 + k);
         }
     }
@@ -120,44 +109,30 @@ fn first_branch_absent(branches: &Branches, count: usize) -> Option<usize>
 }
 
 // 23, of a load: its node is unknown, or a phase of it is not there.
-fn first_load_absent(
-    branches: &Branches,
-    count: usize,
-    loads: &Loads,
-    total: usize,
-) -> Option<usize>
-    requires count_bound { count ≤ 200 }
-    requires total_bound { total ≤ 300 }
-    ensures { length (loads_of loads.now) ≡ 300 → ((k : ℕ) → count < k → get_or (branches_of branches.now) k no_branch ≡ no_branch) → result ≡ first_row (load_absent (branches_of branches.now)) (count + 6) 1 (take total (loads_of loads.now)) }
+fn first_load_absent(network: &Network) -> Option<usize>
+    ensures { ((k : ℕ) → network.now.rows < k → get_or network.now.branches k no_branch ≡ no_branch) → result ≡ first_row (load_absent network.now.branches) (network.now.rows + 6) 1 (take network.now.count network.now.loads) }
 {
-    for i in 0..total {
-        let l = load_at(loads, i);
-        if count < l.node {
-            return Some(count + 7 + i);
+    for i in 0..network.count {
+        let l = &network.loads[i];
+        if network.rows < l.node {
+            return Some(network.rows + 7 + i);
         }
-        let there = node_phases(l.node, phases_at(branches, l.node));
+        let there = node_phases(l.node, network.branches[l.node].phases);
         if !has_phases(there, l.phase) {
-            return Some(count + 7 + i);
+            return Some(network.rows + 7 + i);
         }
     }
     None
 }
 
 // 23
-pub fn first_phase_absent(
-    branches: &Branches,
-    count: usize,
-    loads: &Loads,
-    total: usize,
-) -> Option<usize>
-    requires count_bound { count ≤ 200 }
-    requires total_bound { total ≤ 300 }
-    requires by_index { (k : ℕ) → (get_or (branches_of branches.now) k no_branch).from ≤ count }
-    ensures { (r : Rows) → branches_of branches.now ≡ branches_in r → count ≡ length r.branches → loads_of loads.now ≡ loads_in r → total ≡ length r.loads → result ≡ phase_absent r }
+pub fn first_phase_absent(network: &Network) -> Option<usize>
+    requires { (k : ℕ) → (get_or network.now.branches k no_branch).from ≤ network.now.rows }
+    ensures { (r : Rows) → network.now.branches ≡ branches_in r → network.now.rows ≡ length r.branches → network.now.loads ≡ loads_in r → network.now.count ≡ length r.loads → result ≡ phase_absent r }
 {
     // A match, since the proof over or_else did not close: what its closure ensures has no name that an answer can cite.
-    match first_branch_absent(branches, count) {
+    match first_branch_absent(network) {
         Some(line) => Some(line),
-        None => first_load_absent(branches, count, loads, total),
+        None => first_load_absent(network),
     }
 }

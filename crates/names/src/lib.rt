@@ -1,19 +1,16 @@
 // Names to node numbers: node 0 is the source, node k the "to" of branch row k. Refusals 20, 21 and 23 are in faults.rt.
 #![tactic(auto)]
 
-ghost use Rattle.std.specs.Prelude.{List, ◌≡◌, ◌+◌, ◌≤◌, pos, length, take};
-ghost use Rattle.std.specs.Int.{w64};
-ghost use Rattle.std.proofs.Common.{SFits};
-ghost use Rattle.arrays.specs.Arrays.{branch_rows, from_names, load_names, load_rows, numbered_branches, numbered_loads};
-ghost use Rattle.feeder.specs.Feeder.{place_of};
-ghost use Rattle.feeder.specs.declared.BranchRow.{BranchRow};
-ghost use Rattle.feeder.specs.declared.LoadRow.{LoadRow};
+ghost use Rattle.std.specs.Prelude.{◌≡◌, ◌∷◌, map, ◌+◌, ◌≤◌, length, replicate, take};
+ghost use Rattle.feeder.specs.Feeder.{branch_of, load_of, no_branch, place_of};
+ghost use Rattle.feeder.specs.Layout.{Rows};
+ghost use Rattle.feeder.specs.Network.{Tabled, kept, no_branch_row, no_load, no_load_row};
+ghost use Rattle.names.specs.Numbered.{nodes_in};
 ghost use Rattle.names.specs.Slots.{Slotted, slot_of};
 
 pub mod faults;
 
-use arrays::{Branches, LoadNames, Loads, Names};
-use integers::whole;
+use feeder::{Branch, Load, Tables, device_of};
 
 // The place of a name among the first n, or n where it is not there.
 fn place_of(name: u64, nodes: &[u64], n: usize) -> usize
@@ -38,7 +35,7 @@ fn slot_of(name: u64) -> usize
 // For each slot the first place whose name has that slot: where to look before searching. A search among 200 names for each of 500 rows is
 // slow. It goes from the last name to the first, so that the first of those with one slot stays. Only a guess: a slot that no name
 // has holds 0, since `find` compares the name.
-pub fn slots_of(nodes: &Names, n: usize) -> [u8; 4093]
+pub fn slots_of(nodes: &[u64; 201], n: usize) -> [u8; 4093]
     requires { n ≤ 201 }
     ensures { Slotted nodes.now result }
 {
@@ -71,49 +68,61 @@ fn find(name: u64, nodes: &[u64], n: usize, slots: &[u8; 4093]) -> usize
     place_of(name, nodes, n)
 }
 
-// The same as a number of a row.
-fn number_of(name: u64, nodes: &Names, n: usize, slots: &[u8; 4093]) -> i64
-    requires n_bound { n ≤ 201 }
-    requires slotted { Slotted nodes.now slots.now }
-    ensures value { result ≡ pos (place_of name (take n nodes.now)) }
-    ensures fits { SFits w64 result }
+// The names of the nodes, which stand by their numbers.
+pub fn name_nodes(tables: &Tables, nodes: &mut [u64; 201])
+    requires rows_bound { tables.now.rows ≤ 200 }
+    requires nodes_value { nodes.old ≡ replicate 201 0 }
+    ensures { (r : Rows) → Tabled r tables.now → nodes.new ≡ nodes_in r }
 {
-    let place = find(name, nodes, n, slots);
-    whole::signed(place as u64)
-}
-
-// The number of its from-node into each branch row.
-pub fn number_branches(
-    froms: &Names,
-    count: usize,
-    nodes: &Names,
-    slots: &[u8; 4093],
-    branches: &mut Branches,
-)
-    requires count_bound { count ≤ 200 }
-    requires slotted { Slotted nodes.now slots.now }
-    ensures { (bs : List BranchRow) → froms.now ≡ from_names bs → count ≡ length bs → branches.old ≡ branch_rows bs → branches.new ≡ numbered_branches (take (count + 1) nodes.now) bs }
-{
-    for k in 1..count + 1 {
-        branches[k][0] = number_of(froms[k], nodes, count + 1, slots);
+    nodes[0] = tables.source;
+    for k in 1..tables.rows + 1 {
+        nodes[k] = tables.branches[k - 1].to;
     }
 }
 
-// The number of its node, among the first n, into each load row.
-pub fn number_loads(
-    names: &LoadNames,
-    total: usize,
-    nodes: &Names,
-    n: usize,
+// The branches, each with the number of its from-node.
+pub fn number_branches(
+    tables: &Tables,
+    nodes: &[u64; 201],
     slots: &[u8; 4093],
-    loads: &mut Loads,
+    branches: &mut [Branch; 201],
 )
-    requires total_bound { total ≤ 300 }
-    requires n_bound { n ≤ 201 }
+    requires rows_bound { tables.now.rows ≤ 200 }
     requires slotted { Slotted nodes.now slots.now }
-    ensures { (ls : List LoadRow) → names.now ≡ load_names ls → total ≡ length ls → loads.old ≡ load_rows ls → loads.new ≡ numbered_loads (take n nodes.now) ls }
+    ensures { (r : Rows) → tables.now.branches ≡ kept no_branch_row 200 r.branches → tables.now.rows ≡ length r.branches → branches.old ≡ replicate 201 no_branch → branches.new ≡ kept no_branch 201 (no_branch ∷ map (branch_of (take (tables.now.rows + 1) nodes.now)) r.branches) }
 {
-    for i in 0..total {
-        loads[i][0] = number_of(names[i], nodes, n, slots);
+    for k in 1..tables.rows + 1 {
+        let row = &tables.branches[k - 1];
+        let from = find(row.from, nodes, tables.rows + 1, slots);
+        branches[k] = Branch {
+            from,
+            phases: row.phases,
+            device: device_of(row.kind, &row.p),
+        };
+    }
+}
+
+// The loads, each with the number of its node.
+pub fn number_loads(
+    tables: &Tables,
+    nodes: &[u64; 201],
+    slots: &[u8; 4093],
+    loads: &mut [Load; 300],
+)
+    requires rows_bound { tables.now.rows ≤ 200 }
+    requires count_bound { tables.now.count ≤ 300 }
+    requires slotted { Slotted nodes.now slots.now }
+    ensures { (r : Rows) → tables.now.loads ≡ kept no_load_row 300 r.loads → tables.now.count ≡ length r.loads → loads.old ≡ replicate 300 no_load → loads.new ≡ kept no_load 300 (map (load_of (take (tables.now.rows + 1) nodes.now)) r.loads) }
+{
+    for i in 0..tables.count {
+        let row = &tables.loads[i];
+        let node = find(row.node, nodes, tables.rows + 1, slots);
+        loads[i] = Load {
+            node,
+            phase: row.phase,
+            kind: row.kind,
+            vn: row.vn,
+            s: row.s,
+        };
     }
 }

@@ -60,48 +60,48 @@ no_row f n h = go 1 n (λ k p q. h k (omega arith) (omega arith))
     go a (suc m) w = rw (w a (omega arith) (omega arith)) (go (a + 1) m (λ k p q. w k (omega arith) (omega arith)))
 
 -- a network's arrays
-pub held_in : {f : Feeder} {g : Network} → Held f g → InArrays f g.branches g.rows
+pub held_in : {f : Feeder} {g : Network} → Held f g → InArrays f g
 held_in h = record { branches-are = h.branches; rows_are = h.rows }
 
-module _ {branches : List Branch} {rows : ℕ} {order rank : List ℕ} (w : Ready branches rows order rank) where
-  pub rank_most : (k : ℕ) → get_or rank k 0 ≤ rows + 1
-  rank_most k = rank-short rows (parent_in branches) order rank (rows + 1) w.ordered k
+module _ {net : Network} (w : Ready net) where
+  pub rank_most : (k : ℕ) → get_or net.rank k 0 ≤ net.rows + 1
+  rank_most k = rank-short net.rows (parent_in net.branches) net.order net.rank (net.rows + 1) w.ordered k
 
   -- every node is reached
-  pub to-source : (k : ℕ) → k < rows + 1 → above (parent_in branches) rows k ≡ 0
-  to-source k h = reached rows (parent_in branches) order rank (rows + 1) w.ordered (omega arith) k (w.ranked k h)
+  pub to-source : (k : ℕ) → k < net.rows + 1 → above (parent_in net.branches) net.rows k ≡ 0
+  to-source k h = reached net.rows (parent_in net.branches) net.order net.rank (net.rows + 1) w.ordered (omega arith) k (w.ranked k h)
 
 pub voltages-length : (f : Feeder) (i : List Three) → length (voltages f i) ≡ suc (row_count f)
 unfolding voltages
 voltages-length f i = length-tab _ 0 (suc (row_count f))
 
-module _ (f : Feeder) (branches : List Branch) (rows : ℕ) (few : rows ≤ 200) (w : InArrays f branches rows) where
+module _ (f : Feeder) (net : Network) (few : net.rows ≤ 200) (w : InArrays f net) where
   -- the branch of each row
-  pub branch-in : (k : ℕ) → get_or branches k no_branch ≡ branch_at f k
+  pub branch-in : (k : ℕ) → get_or net.branches k no_branch ≡ branch_at f k
   unfolding branch_at
   branch-in k =
       ap (λ (l : List Branch). get_or l k no_branch) w.branches-are ∙
       get_or_kept no_branch 201 (no_branch ∷ f.branches) k (let e = w.rows_are in omega arith)
 
   -- the voltage at each node
-  pub voltage-in : (source : Three) → source ≡ f.source → (i : List Three) (k : ℕ) → k < rows + 1 →
-      downward (λ m u. far_voltage (get_or branches m no_branch) u (get_or i m zero3)) source (parent_in branches) rows k ≡ get_or (voltages f i) k zero3
+  pub voltage-in : (source : Three) → source ≡ f.source → (i : List Three) (k : ℕ) → k < net.rows + 1 →
+      downward (λ m u. far_voltage (get_or net.branches m no_branch) u (get_or i m zero3)) source (parent_in net.branches) net.rows k ≡ get_or (voltages f i) k zero3
   unfolding voltages
   voltage-in source e i k h =
       (λ t. downward (λ m u. far_voltage (branch-in m t) u (get_or i m zero3)) (e t) (λ m. (branch-in m t).from) (w.rows_are t) k) ∙
       sym (get_or-tab _ 0 (suc (row_count f)) k zero3 (let q = w.rows_are in omega arith) ∙ (let z : 0 + k ≡ k = omega arith in rw z))
 
   -- each from the one above it
-  pub voltage-next : {order rank : List ℕ} → Ready branches rows order rank → (i : List Three) (k : ℕ) → suc k < rows + 1 →
-      get_or (voltages f i) (suc k) zero3 ≡ far_voltage (get_or branches (suc k) no_branch) (get_or (voltages f i) (parent_in branches (suc k)) zero3) (get_or i (suc k) zero3)
+  pub voltage-next : Ready net → (i : List Three) (k : ℕ) → suc k < net.rows + 1 →
+      get_or (voltages f i) (suc k) zero3 ≡ far_voltage (get_or net.branches (suc k) no_branch) (get_or (voltages f i) (parent_in net.branches (suc k)) zero3) (get_or i (suc k) zero3)
   voltage-next r i k h =
-      let step : ℕ → Three → Three = λ m u. far_voltage (get_or branches m no_branch) u (get_or i m zero3) in
+      let step : ℕ → Three → Three = λ m u. far_voltage (get_or net.branches m no_branch) u (get_or i m zero3) in
       sym (voltage-in f.source refl i (suc k) h) ∙
-      downward-node step f.source (parent_in branches) rows k (to-source r (suc k) h) ∙
-      ap (step (suc k)) (voltage-in f.source refl i (parent_in branches (suc k)) (r.linked.from (suc k) h))
+      downward-node step f.source (parent_in net.branches) net.rows k (to-source r (suc k) h) ∙
+      ap (step (suc k)) (voltage-in f.source refl i (parent_in net.branches (suc k)) (r.linked.from (suc k) h))
 
   -- every row is reached
-  pub reached-in : {order rank : List ℕ} → Ready branches rows order rank → All (Reached f) (rows_of f)
+  pub reached-in : Ready net → All (Reached f) (rows_of f)
   reached-in r =
       all-count (Reached f) 1 (row_count f)
       (λ i q.

@@ -88,6 +88,9 @@ pub fn read_argument(
     told(rt, name, read_file(rt, name, file))
 }
 
+// What these three print stands in a buffer, since nothing is on the heap, and each byte of an answer is promised by the crate that put it there. It goes out
+// as it stands: print! takes what has Display, which bytes have not, and promises no bytes.
+
 // Answers whether all was written.
 pub fn print(rt: &impl Print, words: &[u8]) -> bool {
     rt.write_all(words).is_ok()

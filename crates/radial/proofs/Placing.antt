@@ -4,19 +4,15 @@ use mathlib.Core.Path.{◌≡◌, refl, sym, ap, ◌∙◌}
 use native.Mathlib.Numerals.{add-one}
 use native.Mathlib.Omega.{arith}
 use Prim.Native.Nat.{◌+◌, ◌<◌, ◌≤◌, suc, zero, ℕ}
-use borrow.Author.Count.{below_more}
 use lib.ListN.{get_or, length, length-replicate, length-set, replicate, set, take}
 use lib.Seq.{get_or-set_other, get_or-set_same}
+use Rattle.feeder.specs.NetworkLaws.{get_or-blank}
 use Rattle.feeder.specs.declared.Branch.{Branch}
 use Rattle.radial.specs.Counting.{all-but-source, one_fewer}
-use Rattle.radial.specs.Radial.{Closed, InOrder, Linked, Order, Ordered, Placed, Stepped, made, parent_in, unplaced}
+use Rattle.radial.specs.Radial.{Closed, InOrder, Linked, Ordered, Placed, Stepped, made, parent_in, unplaced}
+use Rattle.radial.specs.declared.Order.{Order}
 use Rattle.radial.specs.Reach.{rank-short}
 use Rattle.integers.specs.Bools.{same?}
-
-zero-at : (n i : ℕ) → ◌≡◌ {A = ℕ} (get_or (replicate n 0) i 0) 0
-zero-at zero i = refl
-zero-at (suc n) zero = refl
-zero-at (suc n) (suc i) = zero-at n i
 
 -- the source alone
 alone : (nodes : ℕ) (par : ℕ → ℕ) (n : ℕ) → 0 < nodes → nodes ≤ suc n → Ordered nodes par (replicate (suc n) 0) (set (replicate (suc n) 0) 0 1) 1
@@ -36,12 +32,12 @@ alone nodes par n p h =
     back : (i k : ℕ) → get_or (1 ∷ replicate n 0) i 0 ≡ suc k → (k < 1) × (get_or (replicate (suc n) 0) k 0 ≡ i)
     back zero zero e = (omega arith, refl)
     back zero (suc k) e = omega arith
-    back (suc i) k e = let z = zero-at n i in omega arith
+    back (suc i) k e = let z = get_or-blank {X = ℕ} 0 n i in omega arith
 
     parent : (i : ℕ) → 0 < i → 0 < get_or (1 ∷ replicate n 0) i 0 →
         (0 < get_or (1 ∷ replicate n 0) (par i) 0) × (get_or (1 ∷ replicate n 0) (par i) 0 < get_or (1 ∷ replicate n 0) i 0)
     parent zero q l = omega arith
-    parent (suc i) q l = let z = zero-at n i in omega arith
+    parent (suc i) q l = let z = get_or-blank {X = ℕ} 0 n i in omega arith
 
 pub start : {bs : List Branch} {rows : ℕ} → Linked bs rows → Placed bs rows (made 1 (replicate 201 0) (set (replicate 201 0) 0 1))
 start {bs} {rows} l =
@@ -124,25 +120,11 @@ module _ (bs : List Branch) (rows : ℕ) (o : Order) (i : ℕ) (p : Placed bs ro
   step-placed up =
       record { placed = place (omega arith); more = omega arith; kept = λ e. absurd (omega arith); closed = λ e. absurd (omega arith) }
 
--- a node that has a place, or whose parent has none, is left
-pub step_left : (bs : List Branch) (rows : ℕ) (o : Order) (i : ℕ) → Placed bs rows o → (get_or o.rank i 0 ≡ 0 → get_or o.rank (parent_in bs i) 0 ≡ 0) → Stepped bs rows i o o
-step_left bs rows o i p none = record { placed = p; more = omega arith; kept = λ e. refl; closed = λ e. none }
-
 -- a pass that began with `len` nodes and is at row i: while it has placed none, no row passed was to be placed
 pub record Upto (bs : List Branch) (rows len i : ℕ) (o : Order) : Type 0 where
   pub placed : Placed bs rows o
   pub more : len ≤ o.len
   pub closed : o.len ≡ len → (k : ℕ) → k < i → 0 < k → get_or o.rank k 0 ≡ 0 → get_or o.rank (parent_in bs k) 0 ≡ 0
-
-pub row-passed : (bs : List Branch) (rows len i : ℕ) (o r : Order) → Upto bs rows len i o → Stepped bs rows i o r → Upto bs rows len (i + 1) r
-row-passed bs rows len i o r u s =
-    record {
-      placed = s.placed;
-      more = omega (arith, u.more, s.more);
-      closed = λ e.
-          let same : r.len ≡ o.len = omega (arith, u.more, s.more) in
-          rw (s.kept same) (below_more _ _ (u.closed (omega arith)) (λ p. s.closed same));
-    }
 
 -- where all are placed, none is to be placed
 pub full : {bs : List Branch} {rows : ℕ} {o : Order} → Placed bs rows o → rows < o.len → Closed (rows + 1) (parent_in bs) o.rank

@@ -10,7 +10,8 @@ use Rattle.feeder.specs.RowLaws.{none-bad, none_found}
 use Rattle.feeder.specs.declared.Branch.{Branch}
 use Rattle.integers.specs.Lists.{count, tab}
 use Rattle.radial.specs.Counting.{all-ranked}
-use Rattle.radial.specs.Radial.{InOrder, Order, Whole, first_lost, lost, parent_in}
+use Rattle.radial.specs.Radial.{InOrder, Whole, first_lost, lost, parent_in}
+use Rattle.radial.specs.declared.Order.{Order}
 use Rattle.radial.specs.Reach.{not-reached, reached}
 
 -- such a search depends on the list's length only

@@ -4,12 +4,7 @@ use Rattle.std.specs.Prelude.{Bool, not, List, [], ◌∷◌, ◌≡◌, ◌+◌
 use Rattle.feeder.specs.Feeder.{above, first_row, no_branch}
 use Rattle.feeder.specs.declared.Branch.{Branch}
 use Rattle.integers.specs.Lists.{count}
-
--- `len` nodes stand in `order`, and `rank` has their places in it, counted from 1
-pub record Order : Type 0 where
-  pub len : ℕ
-  pub order : List ℕ
-  pub rank : List ℕ
+use Rattle.radial.specs.declared.Order.{Order}
 
 abbrev pub made : ℕ → List ℕ → List ℕ → Order
 made len order rank = record { len = len; order = order; rank = rank }
@@ -18,7 +13,8 @@ made len order rank = record { len = len; order = order; rank = rank }
 abbrev pub parent_in : List Branch → ℕ → ℕ
 parent_in bs k = (get_or bs k no_branch).from
 
--- the branches that an order is made from: at most 200 rows, and every from-node is a node
+-- the branches that an order is made from: at most 200 rows, and every from-node is a node. Contracts ask it, and the type of a network does not have it: until 20 has been
+-- tested a from-node may be none
 pub record Linked (bs : List Branch) (rows : ℕ) : Type 0 where
   pub few : rows ≤ 200
   pub from : (k : ℕ) → k < rows + 1 → parent_in bs k < rows + 1
@@ -42,7 +38,8 @@ unplaced [] = 0
 unplaced (zero ∷ l) = suc (unplaced l)
 unplaced (suc n ∷ l) = unplaced l
 
--- an order as far as it has come: its nodes and those without a rank make up the nodes
+-- an order as far as it has come: its nodes and those without a rank make up the nodes. Contracts ask it, and the type of an order does not have it: it is said of the
+-- network's branches too
 pub record Placed (bs : List Branch) (rows : ℕ) (o : Order) : Type 0 where
   pub linked : Linked bs rows
   pub ordered : Ordered (rows + 1) (parent_in bs) o.order o.rank o.len

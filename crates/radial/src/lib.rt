@@ -1,138 +1,103 @@
 // The order of work of a radial feeder: each node after the one that feeds it. specs/Radial.antt says what an order is, Reach.antt and First.antt what it tells.
 #![tactic(auto)]
 
-ghost use Rattle.std.specs.Prelude.{◌≡◌, ◌+◌, ◌<◌, length};
-ghost use Rattle.arrays.specs.Arrays.{branches_of};
-ghost use Rattle.radial.specs.Radial.{InOrder, Linked, Passed, Placed, Stepped, first_lost, made};
+ghost use Rattle.std.specs.Prelude.{◌≡◌, ◌+◌, ◌<◌};
+ghost use Rattle.radial.specs.Radial.{InOrder, Linked, Passed, Placed, Stepped, first_lost};
 
-use arrays::{Branches, Places, from_at};
+use feeder::Network;
 
 // The nodes stand in `order` in an order in which each comes after the one that feeds it: `len` of them are placed. rank[k] is node k's place in it, counted
 // from 1, or 0 where node k is not reached.
+#[derive(Clone, Copy)]
+pub struct Order {
+    pub len: usize,
+    pub order: [usize; 201],
+    pub rank: [usize; 201],
+}
 
-// Node k gets the next place, where it has none and its from-node has one. The answer is how many nodes are placed; the rows stand in the promise only.
-fn place(
-    branches: &Branches,
-    rows: usize,
-    k: usize,
-    len: usize,
-    order: &mut Places,
-    rank: &mut Places,
-) -> usize
-    requires k_bound { k < rows + 1 }
-    requires placed { Placed (branches_of branches.now) rows (made len order.old rank.old) }
-    ensures { Stepped (branches_of branches.now) rows k (made len order.old rank.old) (made result order.new rank.new) }
+// Node k gets the next place, where it has none and its from-node has one.
+fn place(network: &Network, k: usize, to: &mut Order)
+    requires k_bound { k < network.now.rows + 1 }
+    requires placed { Placed network.now.branches network.now.rows to.old }
+    ensures { Stepped network.now.branches network.now.rows k to.old to.new }
 {
-    let placed = rank[k] != 0;
-    if placed {
-        return len;
+    let above = network.branches[k].from;
+    if to.rank[k] == 0 && to.rank[above] != 0 {
+        to.order[to.len] = k;
+        to.len += 1;
+        to.rank[k] = to.len;
     }
-    let above = from_at(branches, k);
-    if rank[above] == 0 {
-        return len;
-    }
-    order[len] = k;
-    rank[k] = len + 1;
-    len + 1
 }
 
 // Places a node, and before it the nodes above it that have no place. A node that was met before is not gone over again: it has a place, or its way up does
 // not come to the source.
-fn place_with_above(
-    branches: &Branches,
-    rows: usize,
-    node: usize,
-    met: &mut Places,
-    len: usize,
-    order: &mut Places,
-    rank: &mut Places,
-) -> usize
-    requires node_bound { (node < rows + 1) × (length met.old ≡ 201) }
-    requires placed { Placed (branches_of branches.now) rows (made len order.old rank.old) }
-    ensures placed_2 { Placed (branches_of branches.now) rows (made result order.new rank.new) }
-    ensures met_len { length met.new ≡ 201 }
+fn place_with_above(network: &Network, node: usize, met: &mut [bool; 201], to: &mut Order)
+    requires node_bound { node < network.now.rows + 1 }
+    requires placed { Placed network.now.branches network.now.rows to.old }
+    ensures { Placed network.now.branches network.now.rows to.new }
 {
-    if met[node] != 0 {
-        return len;
+    if met[node] {
+        return;
     }
-    met[node] = 1;
-    let above = from_at(branches, node);
-    let before = place_with_above(branches, rows, above, met, len, order, rank);
-    place(branches, rows, node, before, order, rank)
+    met[node] = true;
+    let above = network.branches[node].from;
+    place_with_above(network, above, met, to);
+    place(network, node, to);
 }
 
 // Every node with those above it. Each node is gone over once, so the time grows with the number of rows, in whatever order they stand.
-fn climb(
-    branches: &Branches,
-    rows: usize,
-    placed: usize,
-    order: &mut Places,
-    rank: &mut Places,
-) -> usize
-    requires { Placed (branches_of branches.now) rows (made placed order.old rank.old) }
-    ensures { Placed (branches_of branches.now) rows (made result order.new rank.new) }
+fn climb(network: &Network, to: &mut Order)
+    requires { Placed network.now.branches network.now.rows to.old }
+    ensures { Placed network.now.branches network.now.rows to.new }
 {
-    let mut met = [0usize; 201];
-    met[0] = 1;
-    let mut len = placed;
-    for node in 1..rows + 1 {
-        len = place_with_above(branches, rows, node, &mut met, len, order, rank);
+    let mut met = [false; 201];
+    met[0] = true;
+    for node in 1..network.rows + 1 {
+        place_with_above(network, node, &mut met, to);
     }
-    len
 }
 
 // One pass over the rows: each that has no place yet, and whose from-node has one, gets the next.
-fn pass(
-    branches: &Branches,
-    rows: usize,
-    placed: usize,
-    order: &mut Places,
-    rank: &mut Places,
-) -> usize
-    requires { Placed (branches_of branches.now) rows (made placed order.old rank.old) }
-    ensures { Passed (branches_of branches.now) rows (made placed order.old rank.old) (made result order.new rank.new) }
+fn pass(network: &Network, to: &mut Order)
+    requires { Placed network.now.branches network.now.rows to.old }
+    ensures { Passed network.now.branches network.now.rows to.old to.new }
 {
-    let mut len = placed;
-    for k in 1..rows + 1 {
-        len = place(branches, rows, k, len, order, rank);
+    for k in 1..network.rows + 1 {
+        place(network, k, to);
     }
-    len
 }
 
 // The climb, and passes over the rows until all are placed or a pass places none. The climb leaves a row only where the source does not reach it, and the
-// pass behind it then shows that there is none to place. The answer is how many nodes are placed.
-pub fn order_of(branches: &Branches, rows: usize, order: &mut Places, rank: &mut Places) -> usize
-    requires { Linked (branches_of branches.now) rows }
-    ensures { InOrder (branches_of branches.now) rows (made result order.new rank.new) }
+// pass behind it then shows that there is none to place.
+pub fn order_of(network: &Network) -> Order
+    requires { Linked network.now.branches network.now.rows }
+    ensures { InOrder network.now.branches network.now.rows result }
 {
-    *order = [0; 201];
-    *rank = [0; 201];
-    rank[0] = 1;
-    let mut len = climb(branches, rows, 1, order, rank);
+    let mut to = Order {
+        len: 1,
+        order: [0; 201],
+        rank: [0; 201],
+    };
+    to.rank[0] = 1;
+    climb(network, &mut to);
     // A while, since it ends where a pass places none, and not after a number of turns.
-    while len <= rows {
-        let next = pass(branches, rows, len, order, rank);
-        if next == len {
-            return next;
+    while to.len <= network.rows {
+        let before = to.len;
+        pass(network, &mut to);
+        if to.len == before {
+            break;
         }
-        len = next;
     }
-    len
+    to
 }
 
-// The line of the first row that the source does not reach: refusal 22. The ranks tell it; the branches and the order stand in the promise only.
-pub fn first_not_reached(
-    branches: &Branches,
-    rows: usize,
-    len: usize,
-    order: &Places,
-    rank: &Places,
-) -> Option<usize>
-    requires { InOrder (branches_of branches.now) rows (made len order.now rank.now) }
-    ensures { result ≡ first_lost (branches_of branches.now) rows }
+// The line of the first row that the source does not reach: refusal 22. The ranks tell it; the branches stand in the promise only.
+pub fn first_not_reached(network: &Network, order: &Order) -> Option<usize>
+    requires { InOrder network.now.branches network.now.rows order.now }
+    ensures { result ≡ first_lost network.now.branches network.now.rows }
 {
-    for i in 1..rows + 1 {
-        if rank[i] == 0 {
+    for i in 1..network.rows + 1 {
+        if order.rank[i] == 0 {
             return Some(4 + i);
         }
     }

@@ -1,21 +1,18 @@
 -- What the reading of a feeder file answers, by cases of the definition's outcome. Assumes nothing.
-use Rattle.std.specs.Prelude.{List, ◌≡◌, refl, ◌+◌, ◌<◌, ◌≤◌, ℕ, nat_abs, ℤ, get_or, length, Ok, Err, Result}
+use Rattle.std.specs.Prelude.{List, ◌≡◌, refl, ◌+◌, ◌<◌, ◌≤◌, ℕ, nat_abs, get_or, length, Ok, Err, Result}
 use Rattle.std.proofs.Common.{◌∙◌, ap, subst, sym, arith}
 use Rattle.answers.specs.AnswerLaws.{not_good, same-refused}
-use Rattle.answers.specs.Answers.{Outcome, Told, number_of, value_of}
+use Rattle.answers.specs.Answers.{Done, Outcome, Told, number_of, value_of}
 use Rattle.answers.specs.declared.Refusal.{Refusal}
-use Rattle.arrays.specs.Arrays.{branch_rows, from_names, load_names, load_rows, numbered_branches, numbered_loads}
-use Rattle.arrays.specs.declared.Settings.{Settings}
 use Rattle.feeder.specs.Faults.{PointsIntoFeeder}
-use Rattle.feeder.specs.Feeder.{Feeder, no_branch, nodes_of, reading, three_at}
+use Rattle.feeder.specs.Feeder.{Feeder, reading, three_at}
 use Rattle.feeder.proofs.FeederPoints.{points-into-feeder, reading-short}
 use Rattle.feeder.specs.Layout.{Rows}
-use Rattle.feeder.specs.Network.{Held, kept, no_load}
+use Rattle.feeder.specs.Network.{Held, Tabled}
 use Rattle.feeder.specs.Pointing.{turn}
-use Rattle.feeder.specs.declared.Branch.{Branch}
-use Rattle.feeder.specs.declared.Load.{Load}
 use Rattle.feeder.specs.declared.Network.{Network}
-use Rattle.names.specs.Numbered.{nodes_in}
+use Rattle.feeder.specs.declared.Tables.{Tables}
+use Rattle.names.specs.Numbered.{branches_in, loads_in, nodes_in}
 use Rattle.radial.specs.Radial.{Linked, Ordered, parent_in}
 use Rattle.text.specs.Lines.{nth}
 
@@ -54,59 +51,34 @@ AnsweredBy (Err y) r network = r ≡ Err y
 pub record ReadAs (o : Outcome Feeder) (r : Result Network Refusal) : Type 0 where
   pub answered : AnsweredBy o r (λ g. g)
 
--- the answer is what the network has besides its arrays
-pub record ReadInto (o : Outcome Feeder) (r : Result Settings Refusal) (network : Settings → Network) : Type 0 where
-  pub answered : AnsweredBy o r network
+-- the answer says whether the network has it
+pub record ReadInto (o : Outcome Feeder) (r : Outcome Done) (g : Network) : Type 0 where
+  pub answered : AnsweredBy o r (λ u. g)
 
--- a network with these records in the place of its own
-abbrev pub with_records : Network → List Branch → List Load → Network
-with_records g bs ls = record {
-  source = g.source;
-  tol = g.tol;
-  limit = g.limit;
-  rows = g.rows;
-  nodes = g.nodes;
-  branches = bs;
-  count = g.count;
-  loads = ls;
-  order = g.order;
-  rank = g.rank;
-}
-
--- what the source's row and the tables' lengths say
-abbrev pub settings_in : List ℤ → ℕ → ℕ → Settings
-settings_in given rows count = record { source = three_at given 1; tol = nat_abs (nth given 7); limit = nat_abs (nth given 8); rows = rows; count = count }
-
-abbrev pub settings_of : Rows → Settings
-settings_of r = settings_in r.given (length r.branches) (length r.loads)
-
--- the rows of a file in the arrays of the tables' reader
-pub record RowsIn (r : Rows) (settings : Settings) (from-names node-names : List ℕ) (branch-rows : List (List ℤ)) (load-names : List ℕ) (load-rows : List (List ℤ)) : Type 0 where
-  pub set : settings ≡ settings_of r
-  pub froms : from-names ≡ from_names r.branches
-  pub nodes : node-names ≡ nodes_in r
-  pub branches : branch-rows ≡ branch_rows r.branches
-  pub names : load-names ≡ load_names r.loads
-  pub loads : load-rows ≡ load_rows r.loads
-
--- there are such rows
-pub record Stored (settings : Settings) (from-names node-names : List ℕ) (branch-rows : List (List ℤ)) (load-names : List ℕ) (load-rows : List (List ℤ)) : Type 0 where
+-- the tables hold the rows of a file, and all of them
+pub record Stored (t : Tables) : Type 0 where
   pub read : Rows
-  pub held : RowsIn read settings from-names node-names branch-rows load-names load-rows
+  pub tabled : Tabled read t
+  pub few-rows : t.rows ≤ 200
+  pub few-loads : t.count ≤ 300
 
--- the rows of a file in the arrays where their nodes have numbers
-pub record NumberedIn (r : Rows) (settings : Settings) (node-names : List ℕ) (branch-rows load-rows : List (List ℤ)) : Type 0 where
-  pub set : settings ≡ settings_of r
-  pub nodes : node-names ≡ nodes_in r
-  pub branches : branch-rows ≡ numbered_branches (nodes_of r) r.branches
-  pub loads : load-rows ≡ numbered_loads (nodes_of r) r.loads
+-- g has the rows r of a file, with numbers for its nodes
+pub record Numbered (r : Rows) (g : Network) : Type 0 where
+  pub source : g.source ≡ three_at r.given 1
+  pub tol : g.tol ≡ nat_abs (nth r.given 7)
+  pub limit : g.limit ≡ nat_abs (nth r.given 8)
+  pub rows : g.rows ≡ length r.branches
+  pub nodes : g.nodes ≡ nodes_in r
+  pub branches : g.branches ≡ branches_in r
+  pub count : g.count ≡ length r.loads
+  pub loads : g.loads ≡ loads_in r
 
 -- the answer by an equal outcome
-pub into-same : {o p : Outcome Feeder} {r : Result Settings Refusal} {network : Settings → Network} → o ≡ p → ReadInto p r network → ReadInto o r network
-into-same {o} {p} {r} {network} e h = record { answered = subst (λ (z : Outcome Feeder). AnsweredBy z r network) (sym e) h.answered }
+pub into-same : {o p : Outcome Feeder} {r : Outcome Done} {g : Network} → o ≡ p → ReadInto p r g → ReadInto o r g
+into-same {o} {p} {r} {g} e h = record { answered = subst (λ (z : Outcome Feeder). AnsweredBy z r (λ u. g)) (sym e) h.answered }
 
-pub into-refused : {o : Outcome Feeder} {x : Refusal} {r : Result Settings Refusal} {network : Settings → Network} → o ≡ Err x → r ≡ Err x → ReadInto o r network
-into-refused {o} {x} {r} {network} e h = into-same {p = Err x} e (record { answered = h })
+pub into-refused : {o : Outcome Feeder} {x : Refusal} {r : Outcome Done} {g : Network} → o ≡ Err x → r ≡ Err x → ReadInto o r g
+into-refused {o} {x} {r} {g} e h = into-same {p = Err x} e (record { answered = h })
 
 -- what the answer says, where it is good and where it is refused
 pub record ReadWhole (o : Outcome Feeder) (g : Network) : Type 0 where
@@ -115,33 +87,27 @@ pub record ReadWhole (o : Outcome Feeder) (g : Network) : Type 0 where
   pub held : Held feeder g
   pub arranged : Arranged g
 
-pub into-good : {o : Outcome Feeder} {r : Result Settings Refusal} {network : Settings → Network} (s : Settings) → ReadInto o r network → r ≡ Ok s → ReadWhole o (network s)
-into-good {o} {r} {network} s h e = go o refl (subst (λ (z : Result Settings Refusal). AnsweredBy o z network) e h.answered)
+pub into-good : {o : Outcome Feeder} {r : Outcome Done} {g : Network} (u : Done) → ReadInto o r g → r ≡ Ok u → ReadWhole o g
+into-good {o} {r} {g} u h e = go o refl (subst (λ (z : Outcome Done). AnsweredBy {X = Done} o z (λ v. g)) e h.answered)
   where
-    go : (z : Outcome Feeder) → o ≡ z → AnsweredBy z (Ok s) network → ReadWhole o (network s)
+    go : (z : Outcome Feeder) → o ≡ z → AnsweredBy {X = Done} z (Ok u) (λ v. g) → ReadWhole o g
     go (Ok f) d w = record { feeder = f; whole = d; held = w.0; arranged = w.1 }
-    go (Err y) d w = not_good s y w
+    go (Err y) d w = not_good u y w
 
-pub into-bad : {o : Outcome Feeder} {r : Result Settings Refusal} {network : Settings → Network} (x : Refusal) → ReadInto o r network → r ≡ Err x → o ≡ Err x
-into-bad {o} {r} {network} x h e = go o refl (subst (λ (z : Result Settings Refusal). AnsweredBy o z network) e h.answered)
+pub into-bad : {o : Outcome Feeder} {r : Outcome Done} {g : Network} (x : Refusal) → ReadInto o r g → r ≡ Err x → o ≡ Err x
+into-bad {o} {r} {g} x h e = go o refl (subst (λ (z : Outcome Done). AnsweredBy {X = Done} o z (λ v. g)) e h.answered)
   where
-    go : (z : Outcome Feeder) → o ≡ z → AnsweredBy z (Err x) network → o ≡ Err x
+    go : (z : Outcome Feeder) → o ≡ z → AnsweredBy {X = Done} z (Err x) (λ v. g) → o ≡ Err x
     go (Ok f) d w = absurd w
     go (Err y) d w = d ∙ ap (λ (z : Refusal). Err z) (sym (same-refused x y w))
 
--- the same where the network is a value, whose records are those of the arrays where these hold a feeder
-pub into-as : {o : Outcome Feeder} {r : Result Settings Refusal} {network : Settings → Network} {bs : List Branch} {ls : List Load} (s : Settings) → ReadInto o r network → r ≡ Ok s →
-    ((l : List Branch) → (network s).branches ≡ kept no_branch 201 l → bs ≡ kept no_branch 201 l) → ((l : List Load) → (network s).loads ≡ kept no_load 300 l → ls ≡ kept no_load 300 l) →
-    ReadAs o (Ok (with_records (network s) bs ls))
-into-as {o} {r} {network} {bs} {ls} s h e b l =
-    let w = into-good s h e in
-    let g = network s in
-    let x : bs ≡ g.branches = b _ w.held.branches ∙ sym w.held.branches in
-    let y : ls ≡ g.loads = l _ w.held.loads ∙ sym w.held.loads in
-    let a : Held w.feeder (with_records g bs ls) × Arranged (with_records g bs ls) = rw (x, y) (w.held, w.arranged) in
-    record { answered = subst (λ (z : Outcome Feeder). AnsweredBy z (Ok (with_records g bs ls)) (λ g. g)) (sym w.whole) a }
+-- the same where the network is the answer
+pub into-as : {o : Outcome Feeder} {r : Outcome Done} {g : Network} (u : Done) → ReadInto o r g → r ≡ Ok u → ReadAs o (Ok g)
+into-as {o} {r} {g} u h e =
+    let w = into-good u h e in
+    record { answered = subst (λ (z : Outcome Feeder). AnsweredBy z (Ok g) (λ x. x)) (sym w.whole) (w.held, w.arranged) }
 
-pub into-as-bad : {o : Outcome Feeder} {r : Result Settings Refusal} {network : Settings → Network} (x : Refusal) → ReadInto o r network → r ≡ Err x → ReadAs o (Err x)
+pub into-as-bad : {o : Outcome Feeder} {r : Outcome Done} {g : Network} (x : Refusal) → ReadInto o r g → r ≡ Err x → ReadAs o (Err x)
 into-as-bad x h e = record { answered = subst (λ (z : Outcome Feeder). AnsweredBy z (Err x) (λ g. g)) (sym (into-bad x h e)) refl }
 
 -- such an answer tells its outcome's number and value

@@ -1,5 +1,5 @@
 -- The check in its steps, and the answers of the two readers by cases. Assumes nothing.
-use Rattle.std.specs.Prelude.{Bool, false, true, List, ◌≡◌, refl, ℕ, Option, Some, None, Ok, Err}
+use Rattle.std.specs.Prelude.{Bool, false, true, List, ◌≡◌, refl, ℕ, Option, Some, None, Ok, Err, IsErrAnd, MatchResult, Result}
 use Rattle.std.proofs.Common.{◌∙◌, ap, sym, arith}
 use Rattle.account.specs.Account.{PowerAccount}
 use Rattle.answers.specs.AnswerLaws.{not-refused, not_good}
@@ -41,6 +41,22 @@ fails-if r o e = rw e
 
 pub passes : {t : Bool} (r : Refusal) → t ≡ false → Ok done ≡ (refuse_if t r >> Ok done)
 passes r e = rw e
+
+-- ---- what `map_err` leaves as it is, and what it makes of an error
+module _ {X Y Z : Type 0} (P : Y → Z → Type 0) (r : Result X Y) (s : Result X Z) where
+  pub mapped-ok : (x : X) → MatchResult r (λ y. s ≡ Ok y) (λ e. IsErrAnd s (P e)) → s ≡ Ok x → r ≡ Ok x
+  mapped-ok x h e = go r h
+    where
+      go : (r : Result X Y) → MatchResult r (λ y. s ≡ Ok y) (λ e. IsErrAnd s (P e)) → r ≡ Ok x
+      go (Ok y) h = let q = sym h ∙ e in let z : y ≡ x = cc in ap Ok z
+      go (Err y) h = absurd (rw e at h)
+
+  pub mapped-err : (z : Z) → MatchResult r (λ y. s ≡ Ok y) (λ e. IsErrAnd s (P e)) → s ≡ Err z → (e : Y) × ((r ≡ Err e) × P e z)
+  mapped-err z h e = go r h
+    where
+      go : (r : Result X Y) → MatchResult r (λ y. s ≡ Ok y) (λ e. IsErrAnd s (P e)) → (e : Y) × ((r ≡ Err e) × P e z)
+      go (Ok y) h = let q = sym h ∙ e in cc
+      go (Err y) h = (y, (refl, rw e at h))
 
 -- ---- 30 to 32, by what was worked
 fails-by : (a b c : Bool) (p : Pair) (e : WorkError) (o : Outcome Done) → Err e ≡ work_of a b c p →

@@ -1,5 +1,5 @@
 -- A feeder and its report in memory, with the currents worked at the reported voltages: what the tests over them ask for. Assumes nothing.
-use Rattle.std.specs.Prelude.{◌&&◌, ◌≡◌, ◌+◌, ◌<◌, ◌≤◌, suc, zero, ℕ, nat_abs, ℤ, length, Option, None, Result}
+use Rattle.std.specs.Prelude.{◌&&◌, ◌≡◌, ◌+◌, ◌<◌, ◌≤◌, suc, zero, ℕ, nat_abs, length, Option, None, Result}
 use Rattle.std.proofs.Math.Bool.{cond, false, not, true}
 use mathlib.Core.List.{List, ◌∷◌, map}
 use Rattle.std.proofs.Common.{◌∙◌, subst, arith}
@@ -11,7 +11,7 @@ use Rattle.feeder.specs.Feeder.{Feeder, branch_at, first_row, no_branch, parent,
 use Rattle.feeder.specs.Network.{Held, branch_array, kept}
 use Rattle.feeder.specs.RowLaws.{held, or-none}
 use Rattle.feeder.specs.declared.Network.{Network}
-use Rattle.feeder.specs.Phased.{Three}
+use Rattle.feeder.specs.Phased.{Taps, Three}
 use Rattle.integers.specs.Pairs.{0c}
 use Rattle.integers.specs.declared.Pair.{Pair}
 use Rattle.deviations.specs.Deviations.{Comparable, differ, first_off}
@@ -31,7 +31,7 @@ use Rattle.feeder.specs.declared.Branch.{Branch}
 use Rattle.feeder.specs.declared.Phase.{Phase}
 use Rattle.equations.specs.Limits.{DeviceOk}
 use Rattle.integers.specs.ListLaws.{length-tab}
-use Rattle.sweeps.specs.Retapped.{retapped-known, with_branches}
+use Rattle.sweeps.specs.Retapped.{retapped-held, retapped-known, with_branches}
 use Rattle.sweeps.specs.SweepsLaws.{branch_held}
 
 -- g has a feeder, and t a report of it
@@ -41,7 +41,7 @@ pub record Met (g : Network) (t : ReportRead) : Type 0 where
   pub read : ReportHeld (row_count known.feeder) report t
 
 -- and the reported taps, within ±16, by node number
-pub record MetTaps (g : Network) (t : ReportRead) (taps : List (List ℤ)) : Type 0 where
+pub record MetTaps (g : Network) (t : ReportRead) (taps : List Taps) : Type 0 where
   pub known : Known g
   pub report : Reported
   pub read : ReportHeld (row_count known.feeder) report t
@@ -125,9 +125,14 @@ pub taps-many : (f : Feeder) (x : Reported) → row_count f ≤ 200 → length (
 unfolding reported_taps
 taps-many f x h = omega (arith, length-tab (taps_given f x.taps) 0 (suc (row_count f)))
 
-module _ (g : Network) (t : ReportRead) (taps : List (List ℤ)) (m : MetTaps g t taps) (bs : List Branch) (e : bs ≡ branch_array (with_reported m.known.feeder m.report)) where
-  pub own-known : Known (with_branches bs g)
-  own-known = retapped-known g m.known (with_reported m.known.feeder m.report) bs (only-taps m.known.feeder m.report) m.small e
+-- g with the branches bs, which have the reported taps
+module _ (g : Network) (bs : List Branch) (few_rows : g.rows ≤ 200) (few_loads : g.count ≤ 300) where
+  pub own-held : (f : Feeder) (x : Reported) → bs ≡ branch_array (with_reported f x) → Held f g → Held (with_reported f x) (with_branches bs g few_rows few_loads)
+  own-held f x e h = retapped-held g bs few_rows few_loads f (with_reported f x) (only-taps f x) e h
 
-  pub own-met : Met (with_branches bs g) t
-  own-met = record { known = own-known; report = m.report; read = subst (λ (n : ℕ). ReportHeld n m.report t) (sym m.known.held.rows ∙ own-known.held.rows) m.read }
+  module _ (t : ReportRead) (taps : List Taps) (m : MetTaps g t taps) (e : bs ≡ branch_array (with_reported m.known.feeder m.report)) where
+    pub own-known : Known (with_branches bs g few_rows few_loads)
+    own-known = retapped-known g bs few_rows few_loads m.known (with_reported m.known.feeder m.report) (only-taps m.known.feeder m.report) m.small e
+
+    pub own-met : Met (with_branches bs g few_rows few_loads) t
+    own-met = record { known = own-known; report = m.report; read = subst (λ (n : ℕ). ReportHeld n m.report t) (sym m.known.held.rows ∙ own-known.held.rows) m.read }

@@ -9,6 +9,7 @@ ghost use Rattle.verdicts.specs.ReportFaults.{CheckPoints};
 
 use crate::stages::check_text;
 use answers::Refusal;
+use feeder::Network;
 use reading::read_into;
 
 pub mod stages;
@@ -24,18 +25,7 @@ pub fn check(feeder: &[u8], report: &[u8]) -> Result<(), Refusal>
     if long {
         return Err(Refusal::TooLong);
     }
-    let mut nodes = [0u64; 201];
-    let mut branches = [[0i64; 17]; 201];
-    let mut loads = [[0i64; 6]; 300];
-    let mut order = [0usize; 201];
-    let mut rank = [0usize; 201];
-    let settings = read_into(
-        feeder,
-        &mut nodes,
-        &mut branches,
-        &mut loads,
-        &mut order,
-        &mut rank,
-    )?;
-    check_text(settings, &nodes, &branches, &loads, &order, &rank, report)
+    let mut network = Network::empty();
+    read_into(feeder, &mut network)?;
+    check_text(&network, report)
 }

@@ -2,7 +2,6 @@
 // specs/CheckStages.antt has the definition in the same steps.
 ghost use Rattle.std.specs.Prelude.{true, ◌≡◌, Ok};
 ghost use Rattle.answers.specs.Answers.{done};
-ghost use Rattle.arrays.specs.Arrays.{network_of, threes_of};
 ghost use Rattle.feeder.specs.Feeder.{Feeder, row_count};
 ghost use Rattle.feeder.specs.Network.{Held};
 ghost use Rattle.deviations.specs.Deviations.{Comparable};
@@ -15,10 +14,10 @@ ghost use Rattle.report_check.specs.CheckStages.{behind50, from50};
 ghost use Rattle.report_check.specs.InHand.{InHand, Met, MetTaps};
 
 use answers::Refusal;
-use arrays::{Branches, Loads, Names, Places, Settings, Threes, three_at};
-use compare;
+use arrays::Threes;
+use compare::Powers;
 use deviations::compare_pass;
-use devices;
+use feeder::{NO_THREE, Network};
 use integers::Pair;
 use passes::loss_pass;
 use report_reader::{ReportArrays, read_report};
@@ -27,29 +26,24 @@ use sweeps::work_currents;
 
 // 55: `i` are the worked currents, `drawn` the power drawn with them.
 fn check_totals(
-    settings: Settings,
-    nodes: &Names,
-    branches: &Branches,
-    loads: &Loads,
-    order: &Places,
-    rank: &Places,
+    network: &Network,
     read: &ReportArrays,
     i: &Threes,
     drawn: Pair,
 ) -> Result<(), Refusal>
-    requires known { Known (network_of settings nodes.now branches.now loads.now order.now rank.now) }
-    requires small_currents { SmallCurrents settings.rows (threes_of i.now) }
-    ensures { (f : Feeder) (x : Reported) → InHand f x (network_of settings nodes.now branches.now loads.now order.now rank.now) (report_read true read.now) (threes_of i.now) drawn → result ≡ from55 (Ok done) f x }
+    requires known { Known network.now }
+    requires small_currents { SmallCurrents network.now.rows i.now }
+    ensures { (f : Feeder) (x : Reported) → InHand f x network.now (report_read true read.now) i.now drawn → result ≡ from55 (Ok done) f x }
 {
-    let rows = settings.rows;
-    let mut worked = [[0i64; 2]; 201];
-    let lost = loss_pass(branches, rows, i, &mut worked);
-    let source = settings.source;
-    let taken = three_at(i, 0);
-    let sent = devices::power(source, taken);
-    let losses = &read.losses;
-    let totals = &read.totals;
-    if compare::totals_differ(rows, losses, &worked, totals, sent, drawn, lost) {
+    let mut worked = [Pair { re: 0, im: 0 }; 201];
+    let lost = loss_pass(network, i, &mut worked);
+    let source = devices::power(network.source, i[0]);
+    let powers = Powers {
+        source,
+        drawn,
+        lost,
+    };
+    if compare::totals_differ(network.rows, read, &worked, powers) {
         return Err(Refusal::TotalDiffers);
     }
     Ok(())
@@ -57,162 +51,72 @@ fn check_totals(
 
 // 53 and 54.
 fn check_currents(
-    settings: Settings,
-    nodes: &Names,
-    branches: &Branches,
-    loads: &Loads,
-    order: &Places,
-    rank: &Places,
+    network: &Network,
     read: &ReportArrays,
     i: &Threes,
     drawn: Pair,
 ) -> Result<(), Refusal>
-    requires known { Known (network_of settings nodes.now branches.now loads.now order.now rank.now) }
-    requires comparable { Comparable settings.source (threes_of read.now.voltages) settings.tol }
-    requires small_currents { SmallCurrents settings.rows (threes_of i.now) }
-    ensures { (f : Feeder) (x : Reported) → InHand f x (network_of settings nodes.now branches.now loads.now order.now rank.now) (report_read true read.now) (threes_of i.now) drawn → result ≡ from53 (Ok done) f x }
+    requires known { Known network.now }
+    requires comparable { Comparable network.now.source read.now.voltages network.now.tol }
+    requires small_currents { SmallCurrents network.now.rows i.now }
+    ensures { (f : Feeder) (x : Reported) → InHand f x network.now (report_read true read.now) i.now drawn → result ≡ from53 (Ok done) f x }
 {
-    let rows = settings.rows;
-    let currents = &read.currents;
-    let differs = compare::first_current_differs(rows, currents, i);
-    if let Some(line) = differs {
+    if let Some(line) = compare::first_current_differs(network.rows, &read.currents, i) {
         return Err(Refusal::CurrentDiffers(line));
     }
-    let source = settings.source;
-    let off = compare_pass(
-        branches,
-        rows,
-        order,
-        rank,
-        source,
-        i,
-        &read.voltages,
-        settings.tol,
-    );
-    if let Some(line) = off {
+    if let Some(line) = compare_pass(network, i, &read.voltages) {
         return Err(Refusal::VoltageOff(line));
     }
-    check_totals(
-        settings, nodes, branches, loads, order, rank, read, i, drawn,
-    )
+    check_totals(network, read, i, drawn)
 }
 
 // 30 to 32: the currents at the reported voltages. The check has no sweep, and their value is 0.
-fn check_work(
-    settings: Settings,
-    nodes: &Names,
-    branches: &Branches,
-    loads: &Loads,
-    order: &Places,
-    rank: &Places,
-    read: &ReportArrays,
-) -> Result<(), Refusal>
-    requires known { Known (network_of settings nodes.now branches.now loads.now order.now rank.now) }
-    requires comparable { Comparable settings.source (threes_of read.now.voltages) settings.tol }
-    ensures { (f : Feeder) (x : Reported) → Held f (network_of settings nodes.now branches.now loads.now order.now rank.now) → ReportHeld (row_count f) x (report_read true read.now) → result ≡ from30 (Ok done) f x }
+fn check_work(network: &Network, read: &ReportArrays) -> Result<(), Refusal>
+    requires known { Known network.now }
+    requires comparable { Comparable network.now.source read.now.voltages network.now.tol }
+    ensures { (f : Feeder) (x : Reported) → Held f network.now → ReportHeld (row_count f) x (report_read true read.now) → result ≡ from30 (Ok done) f x }
 {
-    let mut i = [[0i64; 6]; 201];
-    let worked = work_currents(
-        settings,
-        nodes,
-        branches,
-        loads,
-        order,
-        rank,
-        &read.voltages,
-        &mut i,
-    );
-    match worked {
-        Ok(drawn) => check_currents(
-            settings, nodes, branches, loads, order, rank, read, &i, drawn,
-        ),
-        Err(e) => Err(e.refusal(0)),
-    }
+    let mut i = [NO_THREE; 201];
+    let drawn = work_currents(network, &read.voltages, &mut i).map_err(|e| e.refusal(0))?;
+    check_currents(network, read, &i, drawn)
 }
 
 // 51 and 52, and all that follows up to 55.
-fn check_report(
-    settings: Settings,
-    nodes: &Names,
-    branches: &Branches,
-    loads: &Loads,
-    order: &Places,
-    rank: &Places,
-    read: &ReportArrays,
-) -> Result<(), Refusal>
-    requires { Met (network_of settings nodes.now branches.now loads.now order.now rank.now) (report_read true read.now) }
-    ensures { (f : Feeder) (x : Reported) → Held f (network_of settings nodes.now branches.now loads.now order.now rank.now) → ReportHeld (row_count f) x (report_read true read.now) → result ≡ compared f x }
+fn check_report(network: &Network, read: &ReportArrays) -> Result<(), Refusal>
+    requires { Met network.now (report_read true read.now) }
+    ensures { (f : Feeder) (x : Reported) → Held f network.now → ReportHeld (row_count f) x (report_read true read.now) → result ≡ compared f x }
 {
-    let rows = settings.rows;
-    let named = compare::first_name_differs(
-        nodes,
-        branches,
-        rows,
-        &read.node_names,
-        &read.from_names,
-        &read.to_names,
-        &read.tap_names,
-    );
-    if let Some(line) = named {
+    if let Some(line) = compare::first_name_differs(network, read) {
         return Err(Refusal::NameDiffers(line));
     }
-    let source = settings.source;
-    let differs = compare::first_source_differs(source, branches, rows, &read.voltages);
-    if let Some(line) = differs {
+    if let Some(line) = compare::first_source_differs(network, &read.voltages) {
         return Err(Refusal::SourceDiffers(line));
     }
-    check_work(settings, nodes, branches, loads, order, rank, read)
+    check_work(network, read)
 }
 
 // 51 to 55 for the reported taps, which stand by node number, then 56.
-fn check_taps(
-    settings: Settings,
-    nodes: &Names,
-    branches: &Branches,
-    loads: &Loads,
-    order: &Places,
-    rank: &Places,
-    read: &ReportArrays,
-) -> Result<(), Refusal>
-    requires { MetTaps (network_of settings nodes.now branches.now loads.now order.now rank.now) (report_read true read.now) read.now.taps }
-    ensures { (f : Feeder) (x : Reported) → Held f (network_of settings nodes.now branches.now loads.now order.now rank.now) → ReportHeld (row_count f) x (report_read true read.now) → TapsHeld f x read.now.taps → result ≡ behind50 f x }
+fn check_taps(network: &Network, read: &ReportArrays) -> Result<(), Refusal>
+    requires { MetTaps network.now (report_read true read.now) read.now.taps }
+    ensures { (f : Feeder) (x : Reported) → Held f network.now → ReportHeld (row_count f) x (report_read true read.now) → TapsHeld f x read.now.taps → result ≡ behind50 f x }
 {
-    let rows = settings.rows;
-    let mut own = *branches;
-    set_taps(&mut own, rows, &read.taps);
-    check_report(settings, nodes, &own, loads, order, rank, read)?;
-    let voltages = &read.voltages;
-    let currents = &read.currents;
-    let moves = compare::tap_rows::first_tap_differs(branches, &own, rows, voltages, currents);
-    if let Some(line) = moves {
+    let mut own = *network;
+    set_taps(&mut own.branches, network.rows, &read.taps);
+    check_report(&own, read)?;
+    if let Some(line) = compare::tap_rows::first_tap_differs(network, &own, read) {
         return Err(Refusal::TapDiffers(line));
     }
     Ok(())
 }
 
 // 50, and all that follows.
-pub fn check_text(
-    settings: Settings,
-    nodes: &Names,
-    branches: &Branches,
-    loads: &Loads,
-    order: &Places,
-    rank: &Places,
-    report: &[u8],
-) -> Result<(), Refusal>
-    requires { Known (network_of settings nodes.now branches.now loads.now order.now rank.now) }
-    ensures { (f : Feeder) → Held f (network_of settings nodes.now branches.now loads.now order.now rank.now) → result ≡ from50 f report.now }
+pub fn check_text(network: &Network, report: &[u8]) -> Result<(), Refusal>
+    requires { Known network.now }
+    ensures { (f : Feeder) → Held f network.now → result ≡ from50 f report.now }
 {
     let mut read = ReportArrays::empty();
-    if !read_report(
-        report,
-        nodes,
-        branches,
-        settings.rows,
-        settings.limit,
-        &mut read,
-    ) {
+    if !read_report(report, network, &mut read) {
         return Err(Refusal::ReportLayout);
     }
-    check_taps(settings, nodes, branches, loads, order, rank, &read)
+    check_taps(network, &read)
 }

@@ -9,6 +9,10 @@ use feeder::{Taps, Three};
 use integers::Pair;
 use text::write::{put_byte, put_name, put_number};
 
+// All of them write by hand, as nothing is on the heap and each byte of the buffer is promised: Display and write! promise no bytes of a buffer that is lent.
+// They take the whole buffer and the place `at`, as those of crate text do: a slice that is cut at each field would have to be put together again in each
+// promise.
+
 // A comma, and a number.
 fn put_field(out: &mut [u8], at: usize, z: i64) -> usize
     requires { at + length (44 ∷ decimal z) ≤ length out.old }
@@ -60,8 +64,7 @@ pub fn put_branch(out: &mut [u8], at: usize, from: u64, to: u64, i: Three, loss:
 
 // The sweeps and the three powers.
 pub fn put_totals_line(out: &mut [u8], at: usize, figures: Figures) -> usize
-    requires sweeps_bound { figures.sweeps < 9223372036854775808 }
-    requires figures_in_bounds { at + length (totals_row figures) ≤ length out.old }
+    requires { at + length (totals_row figures) ≤ length out.old }
     ensures { Written out.old at (totals_row figures) result out.new }
 {
     let p = put_number(out, at, figures.sweeps as i64);

@@ -44,7 +44,6 @@ pub fn branch_width(from: u64, to: u64, i: Three, loss: Pair) -> usize
 }
 
 pub fn totals_line_width(figures: Figures) -> usize
-    requires { figures.sweeps < 9223372036854775808 }
     ensures { result ≡ length (totals_row figures) }
 {
     let sweeps = number_width(figures.sweeps as i64);

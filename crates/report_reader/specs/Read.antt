@@ -1,6 +1,5 @@
 -- What the report's reader answers, by the definitions of the report. Assumes nothing.
-use Rattle.std.specs.Prelude.{Bool, false, not, true, ◌∷◌, List, map, ◌≡◌, ◌≤◌, suc, ℕ, ℤ, get_or, length, replicate, Ok, Err}
-use Rattle.arrays.specs.Arrays.{branches_of, no_numbers, pairs_of, threes_of}
+use Rattle.std.specs.Prelude.{Bool, false, not, true, ◌∷◌, List, map, ◌≡◌, ◌≤◌, suc, ℕ, ℤ, pos, get_or, length, replicate, Ok, Err}
 use Rattle.answers.specs.Answers.{Outcome, ◌>>=◌, ◌>>◌, refuse_if}
 use Rattle.answers.specs.declared.Refusal.TheVariants.{ReportLayout}
 use Rattle.answers.specs.declared.Refusal.{Refusal}
@@ -10,12 +9,13 @@ use Rattle.integers.specs.declared.Pair.{Pair}
 use Rattle.text.specs.Lines.{Row, word_of}
 use Rattle.feeder.specs.Feeder.{Feeder, branch_at, no_taps, regulators, row_count}
 use Rattle.feeder.specs.Network.{branch_array, kept}
+use Rattle.feeder.specs.declared.Network.{Network}
 use Rattle.feeder.specs.Phased.{Taps, Three}
 use Rattle.equations.specs.Equations.{zero3}
 use Rattle.equations.specs.Sizes.{Within3}
 use Rattle.report.specs.Report.{Reported, reported_currents, reported_losses, reported_taps, reported_voltages, tap_rows, taps_fit, taps_given}
 use Rattle.report_reader.specs.declared.ReportArrays.{ReportArrays}
-use Rattle.tap_table.specs.TapTable.{Stands, taps_of}
+use Rattle.tap_table.specs.TapTable.{Stands}
 
 -- ---- the report: by node number its names and voltages, and by branch row its names, currents and losses, with nothing at place 0. The totals are their
 -- row's numbers, the first of them the sweeps; the names of the regulators' rows stand in the order of their table
@@ -34,11 +34,11 @@ abbrev pub report_read : Bool → ReportArrays → ReportRead
 report_read ok r = record {
   ok = ok;
   node_names = r.node_names;
-  voltages = threes_of r.voltages;
+  voltages = r.voltages;
   from_names = r.from_names;
   to_names = r.to_names;
-  currents = threes_of r.currents;
-  losses = pairs_of r.losses;
+  currents = r.currents;
+  losses = r.losses;
   totals = r.totals;
   tap_names = r.tap_names;
 }
@@ -47,19 +47,19 @@ report_read ok r = record {
 unfoldable pub no_report : ReportArrays
 no_report = record {
   node_names = replicate 201 0;
-  voltages = replicate 201 (no_numbers 6);
+  voltages = replicate 201 zero3;
   from_names = replicate 201 0;
   to_names = replicate 201 0;
-  currents = replicate 201 (no_numbers 6);
-  losses = replicate 201 (no_numbers 2);
-  totals = no_numbers 7;
+  currents = replicate 201 zero3;
+  losses = replicate 201 0c;
+  totals = replicate 7 (pos 0);
   tap_names = replicate 201 0;
-  taps = replicate 201 (no_numbers 3);
+  taps = replicate 201 no_taps;
 }
 
 -- nothing is read into r; what its totals are does not matter
 abbrev pub Unread : ReportArrays → Type 0
-Unread r = record r { totals = no_numbers 7 } ≡ no_report
+Unread r = record r { totals = replicate 7 (pos 0) } ≡ no_report
 
 -- the arrays of r hold the report x of a feeder with so many branch rows
 pub record ReportHeld (rows : ℕ) (x : Reported) (r : ReportRead) : Type 0 where
@@ -88,14 +88,14 @@ ReportIs rows (Ok x) r = ReportHeld rows x r
 ReportIs rows (Err y) r = NoReport y r
 
 -- the reported taps, by node number
-abbrev pub TapsHeld : Feeder → Reported → List (List ℤ) → Type 0
-TapsHeld f x taps = taps_of taps ≡ kept no_taps 201 (reported_taps f x)
+abbrev pub TapsHeld : Feeder → Reported → List Taps → Type 0
+TapsHeld f x taps = taps ≡ kept no_taps 201 (reported_taps f x)
 
--- the arrays that the reader is lent hold the feeder f
-pub record FeederShown (f : Feeder) (names : List ℕ) (array : List (List ℤ)) (count sweeps : ℕ) : Type 0 where
-  pub nodes : names ≡ kept 0 201 f.nodes
-  pub branches : branches_of array ≡ branch_array f
-  pub rows : count ≡ row_count f
+-- the network that the reader is lent holds the feeder f, and so many sweeps are its limit
+pub record FeederShown (f : Feeder) (g : Network) (sweeps : ℕ) : Type 0 where
+  pub nodes : g.nodes ≡ kept 0 201 f.nodes
+  pub branches : g.branches ≡ branch_array f
+  pub rows : g.rows ≡ row_count f
   pub few-rows : row_count f ≤ 200
   pub limit : sweeps ≡ f.limit
 

@@ -11,8 +11,8 @@ use Rattle.answers.specs.declared.Refusal.TheVariants.{ReportLayout}
 use Rattle.integers.specs.Bools.{both, clash}
 use Rattle.integers.specs.ListLaws.{all-image, all_map, all_true}
 use Rattle.integers.specs.Lists.{all, All, tab}
-use Rattle.integers.specs.Pairs.{0c, inside}
-use Rattle.arrays.specs.Arrays.{no_numbers, pair_of, pairs_of, three_of, threes_of}
+use Rattle.integers.specs.Pairs.{inside}
+use Rattle.integers.specs.declared.Pair.{Pair}
 use Rattle.text.specs.Text.{Placed}
 use Rattle.text.specs.Lines.{Row, nth}
 use Rattle.feeder.specs.Feeder.{Feeder, between, no_taps, row_count, three_at}
@@ -25,7 +25,6 @@ use Rattle.equations.specs.Sizes.{Within3, within3-zero}
 use Rattle.report.specs.Report.{Reported, report_of, reported_currents, reported_losses, reported_taps, reported_voltages, table_of, tap_rows, taps_given, totals_row}
 use Rattle.report_reader.specs.Read.{LastHeld, ReportHeld, ReportIs, ReportRead, Unread, fitting, last_taps, no_report}
 use Rattle.report_reader.specs.declared.ReportArrays.{ReportArrays}
-use Rattle.tap_table.specs.TapTable.{taps_at, taps_of}
 use Rattle.report_tables.specs.TablesRead.{Blank, Empty, TableHeld, TableRead, TotalsHeld, column_of, row_inside, unused, unused_count}
 use Rattle.report_tables.specs.RowLaws.{row_within}
 use Rattle.report_tables.specs.TableLaws.{unused-length}
@@ -193,37 +192,26 @@ module _ (f : Feeder) (s : List ℕ) (nodes branches : TableRead) (totals : List
       go true r = t.held ∙ ap (λ (y : Reported). kept no_taps 201 (tab (taps_given f y.taps) 0 (suc (row_count f)))) (same_good report x r)
       go false r = not-refused ReportLayout x r
 
--- ---- an array of rows as made
-map-replicate : {X Y : Type 0} (f : X → Y) (n : ℕ) (d : X) → map f (replicate n d) ≡ replicate n (f d)
-map-replicate f zero d = refl
-map-replicate f (suc n) d = ap (λ (l : List _). f d ∷ l) (map-replicate f n d)
-
-made-threes : (l : List (List ℤ)) → l ≡ replicate 201 (no_numbers 6) → threes_of l ≡ replicate 201 zero3
-made-threes l e = ap threes_of e ∙ map-replicate three_of 201 (no_numbers 6)
-
-made-pairs : (l : List (List ℤ)) → l ≡ replicate 201 (no_numbers 2) → pairs_of l ≡ replicate 201 0c
-made-pairs l e = ap pairs_of e ∙ map-replicate pair_of 201 (no_numbers 2)
-
 -- ---- the arrays with nothing read: what their readers ask of them
 pub unread : {r : ReportArrays} → r ≡ no_report → Unread r
 unfolding no_report
-unread e = ap (λ (x : ReportArrays). record x { totals = no_numbers 7 }) e
+unread e = ap (λ (x : ReportArrays). record x { totals = replicate 7 (pos 0) }) e
 
 module _ (r : ReportArrays) (e : Unread r) where
   pub nodes-empty : Empty r.node_names r.to_names r.voltages r.losses
   unfolding no_report
   nodes-empty = record {
     first_made = ap (λ (x : ReportArrays). x.node_names) e;
-    threes-made = made-threes _ (ap (λ (x : ReportArrays). x.voltages) e);
-    blank = (ap (λ (x : ReportArrays). x.to_names) e, made-pairs _ (ap (λ (x : ReportArrays). x.losses) e));
+    threes-made = ap (λ (x : ReportArrays). x.voltages) e;
+    blank = (ap (λ (x : ReportArrays). x.to_names) e, ap (λ (x : ReportArrays). x.losses) e);
   }
 
   -- where the node table has stored nothing in the other two
-  pub branches-empty : (second : List ℕ) (pairs : List (List ℤ)) → Blank second (pairs_of pairs) → Empty r.from_names second r.currents pairs
+  pub branches-empty : (second : List ℕ) (pairs : List Pair) → Blank second pairs → Empty r.from_names second r.currents pairs
   unfolding no_report
   branches-empty second pairs h = record {
     first_made = ap (λ (x : ReportArrays). x.from_names) e;
-    threes-made = made-threes _ (ap (λ (x : ReportArrays). x.currents) e);
+    threes-made = ap (λ (x : ReportArrays). x.currents) e;
     blank = h;
   }
 
@@ -231,6 +219,6 @@ module _ (r : ReportArrays) (e : Unread r) where
   unfolding no_report
   tap-names-empty = ap (λ (x : ReportArrays). x.tap_names) e
 
-  pub taps-empty : taps_of r.taps ≡ replicate 201 no_taps
+  pub taps-empty : r.taps ≡ replicate 201 no_taps
   unfolding no_report
-  taps-empty = ap (λ (x : ReportArrays). taps_of x.taps) e ∙ map-replicate taps_at 201 (no_numbers 3)
+  taps-empty = ap (λ (x : ReportArrays). x.taps) e

@@ -8,11 +8,11 @@ ghost use Rattle.text.specs.Lines.{nth};
 ghost use Rattle.report_reader.specs.Read.{FeederShown, ReportIs, TapsHeld, Unread, no_report, report_read};
 
 use crate::last::read_taps;
-use arrays::{Branches, Names, Pairs, Threes};
-use integers::whole;
+use arrays::{Names, Pairs, TapRows, Threes};
+use feeder::{NO_TAPS, NO_THREE, Network};
+use integers::{Pair, whole};
 use report_tables::rows::read_table;
 use report_tables::totals::{Totals, read_totals};
-use tap_table::taps::TapRows;
 
 pub mod last;
 
@@ -38,14 +38,14 @@ impl ReportArrays {
     {
         ReportArrays {
             node_names: [0; 201],
-            voltages: [[0; 6]; 201],
+            voltages: [NO_THREE; 201],
             from_names: [0; 201],
             to_names: [0; 201],
-            currents: [[0; 6]; 201],
-            losses: [[0; 2]; 201],
+            currents: [NO_THREE; 201],
+            losses: [Pair { re: 0, im: 0 }; 201],
             totals: [0; 7],
             tap_names: [0; 201],
-            taps: [[0; 3]; 201],
+            taps: [NO_TAPS; 201],
         }
     }
 }
@@ -68,25 +68,16 @@ fn accepted(nodes: bool, branches: bool, totals: &Totals, limit: usize) -> bool
 }
 
 // The report of a feeder with these nodes and branches and that limit of sweeps, where this answers true. It may have any length and any bytes.
-// A bool and not an Option, since nothing is handed back but whether the report was read.
-pub fn read_report(
-    report: &[u8],
-    nodes: &Names,
-    branches: &Branches,
-    rows: usize,
-    limit: usize,
-    read: &mut ReportArrays,
-) -> bool
-    requires rows_bound { rows ≤ 200 }
-    requires limit_bound { limit ≤ 100 }
+pub fn read_report(report: &[u8], network: &Network, read: &mut ReportArrays) -> bool
+    requires limit_bound { network.now.limit ≤ 100 }
     requires unread { Unread read.old }
-    ensures held { (f : Feeder) → FeederShown f nodes.now branches.now rows limit → ReportIs (row_count f) (report_of f report.now) (report_read result read.new) }
-    ensures taps { (f : Feeder) (x : Reported) → FeederShown f nodes.now branches.now rows limit → report_of f report.now ≡ Ok x → TapsHeld f x read.new.taps }
+    ensures held { (f : Feeder) → FeederShown f network.now network.now.limit → ReportIs (row_count f) (report_of f report.now) (report_read result read.new) }
+    ensures taps { (f : Feeder) (x : Reported) → FeederShown f network.now network.now.limit → report_of f report.now ≡ Ok x → TapsHeld f x read.new.taps }
 {
     let Some(node_table) = read_table(
         report,
         b"node,va_re,va_im,vb_re,vb_im,vc_re,vc_im\n",
-        rows + 1,
+        network.rows + 1,
         false,
         &mut read.node_names,
         &mut read.to_names,
@@ -99,7 +90,7 @@ pub fn read_report(
     let Some(branch_table) = read_table(
         &report[p..],
         b"from,to,ia_re,ia_im,ib_re,ib_im,ic_re,ic_im,loss_p,loss_q\n",
-        rows,
+        network.rows,
         true,
         &mut read.from_names,
         &mut read.to_names,
@@ -115,16 +106,13 @@ pub fn read_report(
     };
     let totals = last.0;
     read.totals = totals;
-    if !read_taps(
-        rest,
-        last.1,
-        nodes,
-        branches,
-        rows,
-        &mut read.tap_names,
-        &mut read.taps,
-    ) {
+    if !read_taps(rest, last.1, network, &mut read.tap_names, &mut read.taps) {
         return false;
     }
-    accepted(node_table.inside, branch_table.inside, &totals, limit)
+    accepted(
+        node_table.inside,
+        branch_table.inside,
+        &totals,
+        network.limit,
+    )
 }

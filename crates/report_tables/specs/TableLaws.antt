@@ -1,5 +1,5 @@
 -- A table's rows, read one after the other into arrays, and the lines around them. Assumes nothing.
-use Rattle.std.specs.Prelude.{Bool, ◌&&◌, false, true, ◌≡◌, refl, ℤ, drop, length, replicate, set, Ok, Err}
+use Rattle.std.specs.Prelude.{Bool, ◌&&◌, false, true, ◌≡◌, refl, drop, length, replicate, set, Ok, Err}
 use Rattle.std.proofs.Math.Bool.{and_assoc, and-true}
 use mathlib.Core.List.{List, [], ◌++◌, ◌∷◌, append_assoc, append-nil, map, map-append}
 use Rattle.std.proofs.Common.{◌∙◌, ap, sym, not-suc-le-zero, length-append}
@@ -9,8 +9,6 @@ use native.Mathlib.Omega.{arith}
 use Rattle.std.proofs.lemmas.List.{length-map}
 use Rattle.answers.specs.Answers.{Outcome, ◌>>=◌}
 use Rattle.answers.specs.declared.Refusal.TheVariants.{ReportLayout}
-use Rattle.arrays.specs.ArrayLaws.{blank-kept}
-use Rattle.arrays.specs.Arrays.{pairs_of, threes_of}
 use Rattle.integers.specs.Lists.{all}
 use Rattle.integers.specs.Pairs.{0c}
 use Rattle.integers.specs.declared.Pair.{Pair}
@@ -18,7 +16,7 @@ use Rattle.text.specs.LineLaws.{begins-within, text-missing, text-stands}
 use Rattle.text.specs.Lines.{Row, row, text}
 use Rattle.text.specs.Text.{begins, bytes, Placed}
 use Rattle.feeder.specs.Network.{kept}
-use Rattle.feeder.specs.NetworkLaws.{kept_next}
+use Rattle.feeder.specs.NetworkLaws.{blank-kept, kept_next}
 use Rattle.feeder.specs.Phased.{Three}
 use Rattle.equations.specs.Equations.{zero3}
 use Rattle.report.specs.Report.{rows_just, table_of}
@@ -113,7 +111,7 @@ added t k x next threes pairs inside =
     }
 
 module _ (branch : Bool) (s : List ℕ) (from count last : ℕ) where
-  module _ (first second : List ℕ) (threes pairs : List (List ℤ)) where
+  module _ (first second : List ℕ) (threes : List Three) (pairs : List Pair) where
     pub going_start : (k : ℕ) → Empty first second threes pairs → k ≡ unused_count branch → last ≡ k + count → last ≤ 201 → from ≤ length s →
         Going branch s from count last (table_read (record { next = from; inside = true }) first second threes pairs) k
     going_start k e u d r h =
@@ -128,8 +126,8 @@ module _ (branch : Bool) (s : List ℕ) (from count last : ℕ) where
           held = record {
             first = column-start 0 branch first e.first_made;
             second = column-start 0 branch second e.blank.0;
-            threes = column-start zero3 branch (threes_of threes) e.threes-made;
-            pairs = column-start 0c branch (pairs_of pairs) e.blank.1;
+            threes = column-start zero3 branch threes e.threes-made;
+            pairs = column-start 0c branch pairs e.blank.1;
             inside = sym (all_none (row_inside branch));
           };
           within = h;

@@ -2,7 +2,6 @@
 use Rattle.std.specs.Prelude.{Bool, ◌&&◌, cond, false, true, List, [], ◌++◌, ◌∷◌, map, ◌≡◌, ◌+◌, ◌≤◌, ℕ, pos, ℤ, get_or, length, replicate, take, Ok, Err, Option}
 use Rattle.std.specs.Option.{MatchOption}
 use Prim.Native.String.{String}
-use Rattle.arrays.specs.Arrays.{pairs_of, threes_of}
 use Rattle.answers.specs.Answers.{Outcome}
 use Rattle.answers.specs.declared.Refusal.TheVariants.{ReportLayout}
 use Rattle.integers.specs.Lists.{all}
@@ -74,18 +73,18 @@ pub record TableRead : Type 0 where
   pub pairs : List Pair
   pub inside : Bool
 
-abbrev pub table_read : Table → List ℕ → List ℕ → List (List ℤ) → List (List ℤ) → TableRead
-table_read t first second threes pairs = record { next = t.next; first = first; second = second; threes = threes_of threes; pairs = pairs_of pairs; inside = t.inside }
+abbrev pub table_read : Table → List ℕ → List ℕ → List Three → List Pair → TableRead
+table_read t first second threes pairs = record { next = t.next; first = first; second = second; threes = threes; pairs = pairs; inside = t.inside }
 
 -- the arrays in which a node row stores nothing are as made
 abbrev pub Blank : List ℕ → List Pair → Type 0
 Blank second pairs = (second ≡ replicate 201 0) × (pairs ≡ replicate 201 0c)
 
 -- all four are as made
-pub record Empty (first second : List ℕ) (threes pairs : List (List ℤ)) : Type 0 where
+pub record Empty (first second : List ℕ) (threes : List Three) (pairs : List Pair) : Type 0 where
   pub first_made : first ≡ replicate 201 0
-  pub threes-made : threes_of threes ≡ replicate 201 zero3
-  pub blank : Blank second (pairs_of pairs)
+  pub threes-made : threes ≡ replicate 201 zero3
+  pub blank : Blank second pairs
 
 -- what an array holds of the rows l
 abbrev pub column_of : {X : Type 0} → X → Bool → (Row → X) → List Row → List X
@@ -108,11 +107,11 @@ pub record TableHeld (branch : Bool) (n : ℕ) (s : List ℕ) (o : Outcome (Plac
   pub within : t.next ≤ length s
   pub blank : branch ≡ false → Blank t.second t.pairs
 
-abbrev pub TableIs : Bool → ℕ → List ℕ → Outcome (Placed (List Row)) → Option Table → List ℕ → List ℕ → List (List ℤ) → List (List ℤ) → Type 0
+abbrev pub TableIs : Bool → ℕ → List ℕ → Outcome (Placed (List Row)) → Option Table → List ℕ → List ℕ → List Three → List Pair → Type 0
 TableIs branch n s o r first second threes pairs = Answer o r (λ t. TableHeld branch n s o (table_read t first second threes pairs))
 
 -- a table with the line of names that these bytes are
-abbrev pub NamedTable : Bool → ℕ → List ℕ → List ℕ → Option Table → List ℕ → List ℕ → List (List ℤ) → List (List ℤ) → Type 0
+abbrev pub NamedTable : Bool → ℕ → List ℕ → List ℕ → Option Table → List ℕ → List ℕ → List Three → List Pair → Type 0
 NamedTable branch count header s r first second threes pairs =
     (name : String) (n : ℕ) → bytes name ≡ header → n ≡ count → TableIs branch n s (table_of name n (name_count branch) (value_count branch) s) r first second threes pairs
 

@@ -4,7 +4,7 @@ ghost use Rattle.report.specs.Report.{rows_just};
 ghost use Rattle.report_tables.specs.TablesRead.{Empty, NamedTable, TableIs, name_count, unused_count, value_count};
 
 use crate::fields::read_row;
-use arrays::{Names, Pairs, Threes, put_pair, put_three};
+use arrays::{Names, Pairs, Threes};
 use text::lines::{stands, stands_empty};
 
 // The place behind a table, and whether its voltages or currents are in their limit.
@@ -14,7 +14,7 @@ pub struct Table {
     pub inside: bool,
 }
 
-// The places in front of the first row.
+// The places in front of the first row: the table is told by the flag that read_row has.
 fn unused_count(branch: bool) -> usize
     ensures { result ≡ unused_count branch }
 {
@@ -49,8 +49,8 @@ fn read_rows(
         let (row, next) = read_row(part, t.next, branch)?;
         first[k] = row.first;
         second[k] = row.second;
-        put_three(threes, k, row.three);
-        put_pair(pairs, k, row.pair);
+        threes[k] = row.three;
+        pairs[k] = row.pair;
         let inside = t.inside && row.inside;
         t = Table { next, inside };
     }

@@ -1,24 +1,24 @@
 -- A report whose numbers keep their limits has fewer than 65,536 bytes. Assumes nothing.
-use Rattle.std.specs.Prelude.{Bool, cond, List, [], ◌*◌, ◌+◌, ◌<◌, ◌≤◌, suc, zero, ℕ, get_or}
+use Rattle.std.specs.Prelude.{Bool, cond, List, [], ◌++◌, ◌∷◌, pos, ◌*◌, ◌+◌, ◌<◌, ◌≤◌, suc, zero, ℕ, get_or}
 use Rattle.std.proofs.Math.Bool.{false, true}
 use Rattle.std.proofs.Common.{suc-mul}
 use native.Mathlib.Omega.{arith}
 use Rattle.std.proofs.Math.ListN.{length, length-append}
 use Rattle.equations.specs.Equations.{at, drawn_power, loss_of, lost_power, source_power, zero3}
 use Rattle.feeder.specs.Feeder.{Feeder, branch_at, regulates, regulators, row_count, taps_on}
-use Rattle.feeder.specs.declared.Branch.{Branch}
+use Rattle.feeder.specs.declared.Network.{Network}
 use Rattle.feeder.specs.declared.Phase.{Phase}
 use Rattle.feeder.specs.Phased.{Three}
 use Rattle.integers.specs.Lists.{count, tab}
 use Rattle.integers.specs.PairLaws.{Within}
 use Rattle.integers.specs.declared.Pair.{Pair}
-use Rattle.report.specs.Report.{branch_line, branches_text, name_text, node_line, nodes_text, report_text, tap_line, taps_text, totals_line, totals_text}
-use Rattle.report_lines.specs.LineLaws.{Short, branch-most, node-most, tap-fits, totals-most}
-use Rattle.report_writer.specs.ReportIs.{Shown, branch-line, joined-chosen, node-line, report-is, tap-line, totals-line}
+use Rattle.report.specs.Report.{branch_line, branches_text, name_text, node_line, nodes_text, pair_text, report_text, tap_line, taps_text, totals_line, totals_text}
+use Rattle.report_lines.specs.LineLaws.{Short, branch-most, decimal-fits, node-most, tap-fits, totals-most}
+use Rattle.report_writer.specs.ReportIs.{Shown, behind, branch-line, line-behind, joined-chosen, node-line, report-is, tap-line, totals-line}
 use Rattle.report_writer.specs.Tables.{whole_text}
 use Rattle.report_lines.specs.declared.Figures.{Figures}
 use Rattle.text.specs.NumberText.{decimal-19, decimal-short}
-use Rattle.text.specs.Text.{bytes, joined}
+use Rattle.text.specs.Text.{bytes, decimal, joined, line}
 
 -- at most 200 rows, voltages and currents within ±2,000,000, and powers of at most 18 digits
 pub record Limited (f : Feeder) (v i : List Three) : Type 0 where
@@ -53,11 +53,16 @@ module _ {f : Feeder} {v i : List Three} (l : Limited f v i) where
   unfolding branch_line name_text
   branch-short k q h = rw (branch-line _ _ (get_or i k zero3) (loss_of f i k)) (branch-most _ _ (λ p. short-8 (l.currents k q h p)) (short-19 (l.losses k q h)))
 
-  totals-short : (k : ℕ) → length (totals_line f v i k) ≤ 142
+  -- whatever the number of sweeps is
+  totals-short : (k : ℕ) → length (totals_line f v i k) ≤ 163
   unfolding totals_line
   totals-short k =
-      let g : Figures = record { sweeps = k; source = source_power f i; drawn = drawn_power f v; lost = lost_power f i } in
-      rw (totals-line g) (totals-most g (short-19 l.source) (short-19 l.drawn) (short-19 l.lost))
+      let g : Figures = record { sweeps = 0; source = source_power f i; drawn = drawn_power f v; lost = lost_power f i; signed = omega arith } in
+      let rest = pair_text g.source ++ (pair_text g.drawn ++ pair_text g.lost) in
+      let most : length (line (decimal (pos 0) ∷ rest)) ≤ 142 = rw (totals-line g) (totals-most g (short-19 l.source) (short-19 l.drawn) (short-19 l.lost)) in
+      let behind-most = rw (line-behind (decimal (pos 0)) rest) at most in
+      rw (line-behind (decimal (pos k)) rest)
+      (omega (arith, length-append (decimal (pos k)) (behind rest), length-append (decimal (pos 0)) (behind rest), decimal-fits (pos k), behind-most))
 
   tap-short : (k : ℕ) → length (tap_line f k) ≤ 75
   unfolding tap_line name_text
@@ -86,6 +91,6 @@ module _ {f : Feeder} {v i : List Three} (l : Limited f v i) where
       ))
 
 -- the same of the text over the arrays
-pub whole-short : {f : Feeder} {vs is : List Three} {nodes : List ℕ} {branches : List Branch} {rows : ℕ} {v i : List Three} {losses : List Pair} {g : Figures} →
-    Limited f vs is → Shown f vs is nodes branches rows v i losses g → length (whole_text nodes branches rows v i losses g) < 65536
+pub whole-short : {f : Feeder} {vs is : List Three} {n : Network} {v i : List Three} {losses : List Pair} {g : Figures} →
+    Limited f vs is → Shown f vs is n v i losses g → length (whole_text n v i losses g) < 65536
 whole-short {g = g} l s = rw (report-is s) at (report-short l g.sweeps)

@@ -1,12 +1,12 @@
 -- Laws of the tables: the lines k to n one by one, and lengths. Assumes nothing.
 use Rattle.std.specs.Prelude.{Bool, cond, false, true, List, [], ◌++◌, ◌∷◌, ◌≡◌, refl, ◌+◌, ◌-◌, ◌<◌, ◌≤◌, suc, ℕ, get_or, length}
-use Rattle.std.proofs.Common.{ap, arith, length-append}
+use Rattle.std.proofs.Common.{arith, length-append}
 use Rattle.feeder.specs.Feeder.{no_branch, regulates, taps_on}
-use Rattle.feeder.specs.declared.Branch.{Branch}
+use Rattle.feeder.specs.declared.Network.{Network}
 use Rattle.integers.specs.Lists.{count, tab}
 use Rattle.report_lines.specs.Lines.{tap_row, totals_row}
 use Rattle.report_writer.specs.Tables.{branch_table, lines_from, node_table, tap_line_at, tap_table, totals_table}
-use Rattle.report_lines.specs.LineLaws.{tap-fits}
+use Rattle.report_lines.specs.LineLaws.{branch_fits, node-fits, tap-fits, totals-fits}
 use Rattle.report_lines.specs.declared.Figures.{Figures}
 use Rattle.text.specs.Text.{bytes, joined}
 
@@ -47,18 +47,13 @@ unfolding tap_table bytes
 tap-table-length g n = omega arith
 
 -- ---- the line of a row in the last table
-pub tap-none : (nodes : List ℕ) (branches : List Branch) (k : ℕ) → regulates (get_or branches k no_branch).device ≡ false → tap_line_at nodes branches k ≡ []
+pub tap-line-fits : (n : Network) (k : ℕ) → length (tap_line_at n k) ≤ 75
 unfolding tap_line_at
-tap-none nodes branches k e = rw e refl
-
-pub tap-some : (nodes : List ℕ) (branches : List Branch) (k : ℕ) → regulates (get_or branches k no_branch).device ≡ true → tap_line_at nodes branches k ≡ tap_row (get_or nodes k 0) (taps_on (get_or branches k no_branch).device)
-unfolding tap_line_at
-tap-some nodes branches k e = ap (λ (d : Bool). cond d (tap_row (get_or nodes k 0) (taps_on (get_or branches k no_branch).device)) []) e
-
-pub tap-line-fits : (nodes : List ℕ) (branches : List Branch) (k : ℕ) → length (tap_line_at nodes branches k) ≤ 75
-unfolding tap_line_at
-tap-line-fits nodes branches k = go (regulates (get_or branches k no_branch).device)
+tap-line-fits n k = go (regulates (get_or n.branches k no_branch).device)
   where
-    go : (d : Bool) → length (cond d (tap_row (get_or nodes k 0) (taps_on (get_or branches k no_branch).device)) []) ≤ 75
+    go : (d : Bool) → length (cond d (tap_row (get_or n.nodes k 0) (taps_on (get_or n.branches k no_branch).device)) []) ≤ 75
     go true = tap-fits _ _
     go false = omega arith
+
+-- ---- what a table's width needs: its lines one by one, and the most that each can have
+pub ruleset widths = (lines-longer, lines-over, node-table-length, branch-table-length, totals-table-length, tap-table-length, node-fits, branch_fits, totals-fits, tap-line-fits)

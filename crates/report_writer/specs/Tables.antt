@@ -2,7 +2,7 @@
 use Rattle.std.specs.Prelude.{cond, ◌-◌, ◌<◌, ◌≤◌, suc, ℕ, get_or, List, [], ◌++◌, ◌∷◌}
 use Rattle.equations.specs.Equations.{zero3}
 use Rattle.feeder.specs.Feeder.{no_branch, regulates, taps_on}
-use Rattle.feeder.specs.declared.Branch.{Branch}
+use Rattle.feeder.specs.declared.Network.{Network}
 use Rattle.feeder.specs.Phased.{Three}
 use Rattle.integers.specs.Pairs.{0c}
 use Rattle.integers.specs.declared.Pair.{Pair}
@@ -29,30 +29,23 @@ tap_table g n = bytes "to,tap_a,tap_b,tap_c\n" ++ lines_from g 1 n
 
 -- ---- over the arrays
 -- the from-node of branch row k
-abbrev pub from_in : List Branch → ℕ → ℕ
-from_in branches k = (get_or branches k no_branch).from
+abbrev pub from_in : Network → ℕ → ℕ
+from_in n k = (get_or n.branches k no_branch).from
 
 -- the arrays have a place for the from-node of each row
-abbrev pub Linked : List Branch → ℕ → Type 0
-Linked branches rows = (k : ℕ) → 0 < k → k ≤ rows → from_in branches k < 201
+abbrev pub Linked : Network → Type 0
+Linked n = (k : ℕ) → 0 < k → k ≤ n.rows → from_in n k < 201
 
 -- the line of node k, and of branch row k
-unfoldable pub node_line_at : List ℕ → List Three → ℕ → List ℕ
-node_line_at nodes v k = node_row (get_or nodes k 0) (get_or v k zero3)
+unfoldable pub node_line_at : Network → List Three → ℕ → List ℕ
+node_line_at n v k = node_row (get_or n.nodes k 0) (get_or v k zero3)
 
-unfoldable pub branch_line_at : List ℕ → List Branch → List Three → List Pair → ℕ → List ℕ
-branch_line_at nodes branches i losses k = branch_row (get_or nodes (from_in branches k) 0) (get_or nodes k 0) (get_or i k zero3) (get_or losses k 0c)
+unfoldable pub branch_line_at : Network → List Three → List Pair → ℕ → List ℕ
+branch_line_at n i losses k = branch_row (get_or n.nodes (from_in n k) 0) (get_or n.nodes k 0) (get_or i k zero3) (get_or losses k 0c)
 
 -- the line of branch row k in the last table: none where it is no regulator's
-unfoldable pub tap_line_at : List ℕ → List Branch → ℕ → List ℕ
-tap_line_at nodes branches k = let d = (get_or branches k no_branch).device in cond (regulates d) (tap_row (get_or nodes k 0) (taps_on d)) []
+unfoldable pub tap_line_at : Network → ℕ → List ℕ
+tap_line_at n k = let d = (get_or n.branches k no_branch).device in cond (regulates d) (tap_row (get_or n.nodes k 0) (taps_on d)) []
 
--- what the code asks of its arguments: at most 200 rows, from-nodes that have places, and sweeps that are a signed number
-pub record Given (branches : List Branch) (rows : ℕ) (g : Figures) : Type 0 where
-  pub few : rows ≤ 200
-  pub from : Linked branches rows
-  pub sweeps : g.sweeps < 9223372036854775808
-
-unfoldable pub whole_text : List ℕ → List Branch → ℕ → List Three → List Three → List Pair → Figures → List ℕ
-whole_text nodes branches rows v i losses g =
-    node_table (node_line_at nodes v) rows ++ (branch_table (branch_line_at nodes branches i losses) rows ++ (totals_table g ++ tap_table (tap_line_at nodes branches) rows))
+unfoldable pub whole_text : Network → List Three → List Three → List Pair → Figures → List ℕ
+whole_text n v i losses g = node_table (node_line_at n v) n.rows ++ (branch_table (branch_line_at n i losses) n.rows ++ (totals_table g ++ tap_table (tap_line_at n) n.rows))

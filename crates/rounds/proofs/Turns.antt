@@ -1,5 +1,5 @@
 -- What the rounds come to over a feeder in memory: each round is one step of the definition. Assumes nothing.
-use Rattle.std.specs.Prelude.{Bool, cond, false, not, true, List, ◌≡◌, refl, ◌+◌, ◌<◌, suc, zero, ℕ, get_or, Ok, Err}
+use Rattle.std.specs.Prelude.{Bool, cond, false, not, true, List, ◌≡◌, refl, ◌+◌, ◌<◌, ◌≤◌, suc, zero, ℕ, get_or, Ok, Err}
 use Rattle.std.proofs.Common.{◌∙◌, ap, sym, arith}
 use Rattle.answers.specs.AnswerLaws.{not-refused, same_good}
 use Rattle.answers.specs.Answers.{Outcome, ◌>>=◌}
@@ -91,7 +91,7 @@ module _ (f : Feeder) (left : ℕ) (n : Network) (w : Reached f (suc left) n) wh
       go (Ok y) z h = not-refused x _ h.run-is
       go (Err y) z h = record { regulating-is = rw (step ∙ ap (λ (o : Outcome Solution). o >>= next) z) h.run-is }
 
-  module _ (r : Run) (v i : List Three) (s : SolvedAs g (solution g) (Ok r) v i) (moving : Bool) (bs : List Branch) (m : moving ≡ not (at_rest g v i)) (b : bs ≡ branch_array (with_taps (moved g v i) g)) where
+  module _ (r : Run) (v i : List Three) (s : SolvedAs g (solution g) (Ok r) v i) (moving : Bool) (bs : List Branch) (m : moving ≡ not (at_rest g v i)) (b : bs ≡ branch_array (with_taps (moved g v i) g)) (few_rows : n.rows ≤ 200) (few_loads : n.count ≤ 300) where
     y : Found g r v i
     y = found g r v i s
 
@@ -116,25 +116,26 @@ module _ (f : Feeder) (left : ℕ) (n : Network) (w : Reached f (suc left) n) wh
     rest : (c : Bool) → moving ≡ c → at_rest g x.voltages x.currents ≡ not c
     rest c z = sym (rest_at g sv si) ∙ turned moving (at_rest g v i) m ∙ ap not z
 
-    pub round-rests : moving ≡ false → RegulatedAs (regulated f) (Ok r) (with_branches bs n) v i
+    pub round-rests : moving ≡ false → RegulatedAs (regulated f) (Ok r) (with_branches bs n few_rows few_loads) v i
     round-rests z =
         let same : with_taps (moved g v i) g ≡ g = rest-same g v i (turned moving (at_rest g v i) m ∙ ap not z) in
         let o : regulated f ≡ Ok (record { feeder = g; solution = x }) = here ∙ ap (λ (c : Bool). cond c (Ok (record { feeder = g; solution = x })) (rounds left (with_taps (moved g x.voltages x.currents) g))) (rest false z) in
         let a : SolvedAs g (Ok x) (Ok r) v i = rw y.came at s in
-        record { regulating-is = rw o (retapped-held g g n bs (retapped-self g) (b ∙ ap branch_array same) w.held, a) }
+        record { regulating-is = rw o (retapped-held n bs few_rows few_loads g g (retapped-self g) (b ∙ ap branch_array same) w.held, a) }
 
-    pub round-moves : moving ≡ true → Reached f left (with_branches bs n)
+    pub round-moves : moving ≡ true → Reached f left (with_branches bs n few_rows few_loads)
     round-moves z =
         let t = moved_same g sv si in
         let o : regulated f ≡ rounds left (with_taps (moved g x.voltages x.currents) g) = here ∙ ap (λ (c : Bool). cond c (Ok (record { feeder = g; solution = x })) (rounds left (with_taps (moved g x.voltages x.currents) g))) (rest true z) in
         record {
           feeder = with_taps (moved g v i) g;
-          held = retapped-held g (with_taps (moved g v i) g) n bs (retapped-with g g (moved g v i) (retapped-self g)) b w.held;
+          held = retapped-held n bs few_rows few_loads g (with_taps (moved g v i) g) (retapped-with g g (moved g v i) (retapped-self g)) b w.held;
           same = o ∙ sym (ap (λ (l : List _). rounds left (with_taps l g)) t);
         }
 
 -- arrays with moved taps are known
-pub known-moved : (n : Network) (w : Known n) (v i : List Three) (bs : List Branch) → bs ≡ branch_array (with_taps (moved w.feeder v i) w.feeder) → Known (with_branches bs n)
-known-moved n w v i bs e =
+pub known-moved : (n : Network) (w : Known n) (v i : List Three) (bs : List Branch) → bs ≡ branch_array (with_taps (moved w.feeder v i) w.feeder) → (few_rows : n.rows ≤ 200) (few_loads : n.count ≤ 300)
+    → Known (with_branches bs n few_rows few_loads)
+known-moved n w v i bs e few_rows few_loads =
     let g = w.feeder in
-    retapped-known n w (with_taps (moved g v i) g) bs (retapped-with g g (moved g v i) (retapped-self g)) (moved-small g v i w.fit) e
+    retapped-known n bs few_rows few_loads w (with_taps (moved g v i) g) (retapped-with g g (moved g v i) (retapped-self g)) (moved-small g v i w.fit) e

@@ -1,4 +1,4 @@
-// The rows of the branch table and of the load table, each read at a place of the file. specs/RowRead.antt says what each reader answers.
+// The rows of the branch table and of the load table, each read at a place of the file.
 #![tactic(auto)]
 
 pub mod branches;

@@ -1,4 +1,6 @@
 // The words of a row's columns, each as the number that its letters are packed into.
+#![tactic(auto, unfolding(text::specs::Lines::listed, text::specs::Text::word, text::specs::Text::pack, text::specs::Text::bytes))]
+
 ghost use Rattle.std.specs.Prelude.{◌≡◌};
 ghost use Rattle.answers.specs.declared.Refusal.{Refusal};
 ghost use Rattle.text.specs.Lines.{got, listed};

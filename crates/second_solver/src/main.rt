@@ -7,19 +7,17 @@
 ghost use Rattle.std.specs.Prelude.{◌≤◌, length};
 
 use answers::Refusal;
-use arrays::{Branches, Loads, Names, Places, Settings};
+use arrays::TapRows;
 use bounds::bound::bounds_on;
 use bounds::compare::{Compared, compare};
-use branch_taps::{put_taps, regulates_at};
 use cases::{Case, Cases, read_cases, text_space};
-use feeder::Taps;
+use feeder::Network;
 use floats::phasor::Solution;
-use floats::solver::{place, solve};
+use floats::solver::solve;
 use ladder::{Written, study_feeder};
 use programs::{print, print_refusal, used};
 use reading::read_into;
 use report_reader::{ReportArrays, read_report};
-use tap_table::taps::TapRows;
 
 // x in hundredths, to the nearest whole number; 0 where there is none.
 fn hundredths(x: f64) -> u64 {
@@ -56,43 +54,27 @@ fn print_both(rt: &impl Print, voltages: Compared, currents: Compared) {
 }
 
 // The line of a feeder with a report, behind its name. The branches hold the reported taps.
-fn try_report(
-    rt: &impl Print,
-    settings: Settings,
-    branches: &Branches,
-    loads: &Loads,
-    order: &Places,
-    report: &ReportArrays,
-) {
+fn try_report(rt: &impl Print, network: &Network, report: &ReportArrays) {
     let mut solved = Solution::zero();
-    if solve(settings, branches, loads, order, &mut solved).is_none() {
+    if solve(network, &mut solved).is_none() {
         print(rt, b" OVER: the floats do not settle\n");
         return;
     }
     let mut bounds = Solution::zero();
-    let bounded = bounds_on(
-        settings,
-        branches,
-        loads,
-        order,
-        &solved.voltages,
-        &report.voltages,
-        &mut bounds,
-    );
+    let bounded = bounds_on(network, &solved.voltages, &report.voltages, &mut bounds);
     let Some(moved) = bounded else {
         print(rt, b" OVER: there is no bound\n");
         return;
     };
-    let rows = settings.rows;
     let v = compare(
-        rows,
+        network.rows,
         &solved.voltages,
         &report.voltages,
         &bounds.voltages,
         moved,
     );
     let i = compare(
-        rows,
+        network.rows,
         &solved.currents,
         &report.currents,
         &bounds.currents,
@@ -113,15 +95,9 @@ fn print_sweeps(rt: &impl Print, limit: usize, sweeps: usize) {
 
 // The line of a feeder that the study leaves unsettled (34), behind its name. The floats have the taps of the first round, so it is for feeders that have no
 // level above 0.
-fn try_unsettled(
-    rt: &impl Print,
-    settings: Settings,
-    branches: &Branches,
-    loads: &Loads,
-    order: &Places,
-) {
-    match solve(settings, branches, loads, order, &mut Solution::zero()) {
-        Some(sweeps) => print_sweeps(rt, settings.limit, sweeps),
+fn try_unsettled(rt: &impl Print, network: &Network) {
+    match solve(network, &mut Solution::zero()) {
+        Some(sweeps) => print_sweeps(rt, network.limit, sweeps),
         None => {
             print(rt, b" is not settled (34), nor are the floats\n");
         }
@@ -135,49 +111,24 @@ fn limit_of(limit: usize) -> usize
     limit.min(100)
 }
 
-// Where a regulator feeds node k, it takes the reported taps.
-fn take_row(taps: &TapRows, branches: &mut Branches, k: usize)
-    requires { k ≤ 200 }
-{
-    if regulates_at(branches, k) {
-        let [a, b, c] = taps[k];
-        put_taps(branches, k, Taps { a, b, c });
-    }
-}
-
-// All regulators take the reported taps.
-fn take_taps(rows: usize, taps: &TapRows, branches: &mut Branches) {
-    for k in 1..place(rows) + 1 {
-        take_row(taps, branches, k);
+// All regulators take the reported taps, which stand by node number.
+fn take_taps(network: &mut Network, taps: &TapRows) {
+    for k in 1..network.rows + 1 {
+        network.branches[k].set_taps(taps[k]);
     }
 }
 
 // The line of a feeder in memory with the text of its report, behind its name. It is solved with the taps of the report's last table.
-fn try_written(
-    rt: &impl Print,
-    settings: Settings,
-    nodes: &Names,
-    branches: &mut Branches,
-    loads: &Loads,
-    order: &Places,
-    written: &[u8],
-) {
-    let rows = place(settings.rows);
+#[tactic(auto, using(report_reader::specs::ReportLaws::unread))]
+fn try_written(rt: &impl Print, network: &mut Network, written: &[u8]) {
+    network.limit = limit_of(network.limit);
     let mut report = ReportArrays::empty();
-    let read = read_report(
-        written,
-        nodes,
-        branches,
-        rows,
-        limit_of(settings.limit),
-        &mut report,
-    );
-    if !read {
+    if !read_report(written, network, &mut report) {
         print(rt, b" OVER: the report is not read\n");
         return;
     }
-    take_taps(rows, &report.taps, branches);
-    try_report(rt, settings, branches, loads, order, &report);
+    take_taps(network, &report.taps);
+    try_report(rt, network, &report);
 }
 
 // The line of a feeder that is refused, behind its name.
@@ -189,54 +140,30 @@ fn print_refused(rt: &impl Print, x: Refusal) {
 // The line of a feeder in memory, behind its name, from what the study made of it and the buffer that it wrote.
 fn try_study(
     rt: &impl Print,
-    settings: Settings,
-    nodes: &Names,
-    branches: &mut Branches,
-    loads: &Loads,
-    order: &Places,
+    network: &mut Network,
     study: Result<Written, Refusal>,
     buffer: &[u8],
 ) {
     match study {
         Ok(report) => {
             let n = used(report.length, buffer);
-            try_written(rt, settings, nodes, branches, loads, order, &buffer[..n]);
+            try_written(rt, network, &buffer[..n]);
         }
-        Err(Refusal::NotSettled(_)) => try_unsettled(rt, settings, branches, loads, order),
+        Err(Refusal::NotSettled(_)) => try_unsettled(rt, network),
         Err(x) => print_refused(rt, x),
     }
 }
 
-fn study_and_try(
-    rt: &impl Print,
-    feeder: &[u8],
-    settings: Settings,
-    nodes: &Names,
-    branches: &mut Branches,
-    loads: &Loads,
-    order: &Places,
-) {
+fn study_and_try(rt: &impl Print, feeder: &[u8], network: &mut Network) {
     let mut buffer = [0u8; 65536];
     let study = study_feeder(feeder, &mut buffer);
-    try_study(rt, settings, nodes, branches, loads, order, study, &buffer);
+    try_study(rt, network, study, &buffer);
 }
 
 fn try_feeder(rt: &impl Print, feeder: &[u8]) {
-    let mut nodes = [0u64; 201];
-    let mut branches = [[0i64; 17]; 201];
-    let mut loads = [[0i64; 6]; 300];
-    let mut order = [0usize; 201];
-    let mut rank = [0usize; 201];
-    let read = read_into(
-        feeder,
-        &mut nodes,
-        &mut branches,
-        &mut loads,
-        &mut order,
-        &mut rank,
-    );
-    match read {
-        Ok(settings) => study_and_try(rt, feeder, settings, &nodes, &mut branches, &loads, &order),
+    let mut network = Network::empty();
+    match read_into(feeder, &mut network) {
+        Ok(()) => study_and_try(rt, feeder, &mut network),
         Err(x) => print_refused(rt, x),
     }
 }

@@ -8,6 +8,8 @@ ghost use Rattle.study_answer.specs.StudyAnswer.{study_text};
 use answer_text::put_refusal;
 use ladder::study_feeder;
 
+// Written by hand, as nothing is on the heap and each byte of `out` is promised: Display and write! promise no bytes of a buffer that is lent.
+//
 // The report of a feeder, or the line "refused NUMBER VALUE", at the start of `out`; where `out` has no room for the line either, nothing. Answers how many
 // bytes were written. For all bytes and all lengths.
 pub fn put_study_answer(feeder: &[u8], out: &mut [u8]) -> usize

@@ -1,7 +1,6 @@
 -- What a reader of the feeder says of its file where it refuses nothing: a feeder that is known. Assumes nothing.
-use Rattle.std.specs.Prelude.{List, ◌≡◌, ℕ, Result, Ok}
-use Rattle.answers.specs.declared.Refusal.{Refusal}
-use Rattle.arrays.specs.declared.Settings.{Settings}
+use Rattle.std.specs.Prelude.{List, ◌≡◌, ℕ, Ok}
+use Rattle.answers.specs.Answers.{Done, Outcome}
 use Rattle.equations.specs.Fit.{fit}
 use Rattle.feeder.specs.Feeder.{Feeder, reading}
 use Rattle.feeder.specs.Network.{Held}
@@ -16,9 +15,9 @@ pub record ReadKnown (s : List ℕ) (g : Network) : Type 0 where
   pub held : Held feeder g
   pub known : Known g
 
-pub read-good : (s : List ℕ) {r : Result Settings Refusal} {network : Settings → Network} (t : Settings) → ReadInto (reading s) r network → r ≡ Ok t → ReadKnown s (network t)
-read-good s t h e =
-    let w = into-good t h e in
+pub read-good : (s : List ℕ) {r : Outcome Done} {g : Network} (u : Done) → ReadInto (reading s) r g → r ≡ Ok u → ReadKnown s g
+read-good s u h e =
+    let w = into-good u h e in
     record {
       feeder = w.feeder;
       whole = w.whole;

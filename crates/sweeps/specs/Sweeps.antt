@@ -17,7 +17,8 @@ use Rattle.reading.specs.Reading.{Arranged}
 use Rattle.sweeps.specs.declared.WorkError.{WorkError}
 use Rattle.sweeps.specs.declared.WorkError.TheVariants.{CurrentBeyond, LoadBeyond, ZeroVoltage}
 
--- g holds a feeder that is in 01's limits, and has its nodes in an order of work
+-- g holds a feeder that is in 01's limits, and has its nodes in an order of work. A network is filled in place, and known
+-- only behind the reading
 pub record Known (g : Network) : Type 0 where
   pub feeder : Feeder
   pub held : Held feeder g

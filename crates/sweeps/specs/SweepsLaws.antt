@@ -1,7 +1,8 @@
 -- A feeder in memory is what the passes and the loads ask for. Assumes nothing.
-use Rattle.std.specs.Prelude.{Bool, not, List, ◌∷◌, ◌≡◌, refl, ◌+◌, ◌<◌, ◌≤◌, suc, zero, ℕ, get_or, length, Result, Ok, Err, OnOk}
+use Rattle.std.specs.Prelude.{Bool, List, ◌∷◌, ◌≡◌, refl, ◌+◌, ◌<◌, suc, zero, ℕ, get_or, length, Result, Ok, Err, OnOk}
 use Rattle.std.proofs.Math.Bool.{false, true}
-use Rattle.std.proofs.Common.{◌∙◌, ap, sym, arith, ne_eqb}
+use Rattle.std.proofs.Common.{◌∙◌, ap, subst, sym, arith, ne_eqb}
+use Rattle.answers.specs.Answers.{Done}
 use Rattle.std.proofs.lemmas.Result.{IfOk-at_ok, on_ok_weaker}
 use Rattle.std.proofs.Math.Decide.{dec_lt}
 use Rattle.arrays.specs.Arrays.{Spare}
@@ -20,15 +21,16 @@ use Rattle.integers.specs.ListLaws.{all-at, get_or-tab, length-tab}
 use Rattle.integers.specs.Lists.{tab}
 use Rattle.integers.specs.declared.Pair.{Pair}
 use Rattle.loads.specs.declared.LoadError.{LoadError}
-use Rattle.loads.specs.declared.LoadError.TheVariants.{Beyond, ZeroVoltage as AtZero}
+use Rattle.loads.specs.declared.LoadError.TheVariants.{Beyond as LoadTooLarge, ZeroVoltage as AtZero}
 use Rattle.passes.specs.Arrays.{get_or-behind}
-use Rattle.passes.specs.Passes.{InArrays, Ready, UpwardIs}
+use Rattle.passes.specs.Passes.{InArrays, Ready, UpwardIs, unless_beyond, upwards}
+use Rattle.passes.specs.declared.Beyond.{Beyond}
 use Rattle.sweeps.specs.Sweeps.{Known, WorkedIs, work_error, work_of}
 use Rattle.sweeps.specs.declared.WorkError.{WorkError}
 use Rattle.sweeps.specs.declared.WorkError.TheVariants.{CurrentBeyond}
 
 module _ {f : Feeder} {g : Network} (h : Held f g) where
-  pub in-arrays : InArrays f g.branches g.rows
+  pub in-arrays : InArrays f g
   in-arrays = record { branches-are = h.branches; rows_are = h.rows }
 
   -- the branch of row k
@@ -40,7 +42,7 @@ module _ {f : Feeder} {g : Network} (h : Held f g) where
   load-held k = rw h.loads (get_or_kept no_load 300 f.loads k h.few-loads)
 
 module _ {g : Network} (known : Known g) where
-  pub ready : Ready g.branches g.rows g.order g.rank
+  pub ready : Ready g
   ready = record {
     linked = known.arranged.linked;
     ordered = known.arranged.ordered;
@@ -59,14 +61,10 @@ module _ {g : Network} (known : Known g) where
 
   pub loads-ok : (v : List Three) → ((k : ℕ) → Within3 2000000 (get_or v k zero3)) → LoadsOk g.loads g.count v
   loads-ok v h = record {
-    few = let e = known.held.count in let q = known.held.few-loads in omega arith;
     limits = λ l q. (load_fits l q).0;
     nodes = λ l q. let w = (load_fits l q).1 in let n = known.held.few-rows in omega arith;
     voltages = h;
   }
-
-  pub few-rows : g.rows ≤ 200
-  few-rows = let e = known.held.rows in let q = known.held.few-rows in omega arith
 
   pub source_fits : Within3 2000000 g.source
   source_fits = rw known.held.source known.fit.source
@@ -112,14 +110,14 @@ currents-spare known v r i of =
       behind = λ k q. get_or_kept zero3 201 (currents f v) k (omega arith) ∙ get_or-behind (currents f v) k zero3 (omega arith);
     })) (of f known.held).currents-are
 
--- ---- the answer by what the rows draw
-not-true-of : {a b : Bool} → a ≡ not b → a ≡ true → b ≡ false
-not-true-of {b = true} e t = sym t ∙ e
-not-true-of {b = false} e t = refl
+-- ---- the answer by what a pass answers, and by what the rows draw
+pub was-within : (b : Bool) (u : Done) → unless_beyond b ≡ Ok u → b ≡ false
+was-within true u e = let z : ◌≡◌ {A = ℕ} 0 1 = cc in absurd (omega arith)
+was-within false u e = refl
 
-not-false-of : {a b : Bool} → a ≡ not b → a ≡ false → b ≡ true
-not-false-of {b = true} e t = refl
-not-false-of {b = false} e t = sym t ∙ e
+pub was-beyond : (b : Bool) (x : Beyond) → unless_beyond b ≡ Err x → b ≡ true
+was-beyond true x e = refl
+was-beyond false x e = let z : ◌≡◌ {A = ℕ} 0 1 = cc in absurd (omega arith)
 
 draw-ok : (a b : Bool) (p drawn : Pair) → draw_of a b p ≡ Ok drawn → (a ≡ false) × (b ≡ false) × (drawn ≡ p)
 draw-ok true b p drawn e = let z : ◌≡◌ {A = ℕ} 0 1 = cc in absurd (omega arith)
@@ -128,7 +126,7 @@ draw-ok false false p drawn e = (refl, refl, cc)
 
 draw-err : (a b c : Bool) (p : Pair) (x : LoadError) → draw_of a b p ≡ Err x → Err (work_error x) ≡ work_of a b c p
 draw-err true b c p x e = let z : ◌≡◌ {A = LoadError} AtZero x = cc in ap (λ (y : LoadError). Err (work_error y)) (sym z)
-draw-err false true c p x e = let z : ◌≡◌ {A = LoadError} Beyond x = cc in ap (λ (y : LoadError). Err (work_error y)) (sym z)
+draw-err false true c p x e = let z : ◌≡◌ {A = LoadError} LoadTooLarge x = cc in ap (λ (y : LoadError). Err (work_error y)) (sym z)
 draw-err false false c p x e = let z : ◌≡◌ {A = ℕ} 0 1 = cc in absurd (omega arith)
 
 module _ (f : Feeder) (v : List Three) (d : Result Pair LoadError) (own : List Three) (of : DrawsOf f v d own) (i : List Three) where
@@ -136,20 +134,20 @@ module _ (f : Feeder) (v : List Three) (d : Result Pair LoadError) (own : List T
   pub worked-refused : (x : LoadError) → d ≡ Err x → WorkedIs f v (Err (work_error x)) i
   worked-refused x e = record { work-is = draw-err (zero_voltage f v) (load_beyond f v) _ _ x (sym of.draw-is ∙ e); currents-are = tt }
 
-  module _ (ok : Bool) (up : UpwardIs f (loads_at f v) ok i) (drawn : Pair) (fine : d ≡ Ok drawn) where
-    pub worked-over : ok ≡ false → WorkedIs f v (Err CurrentBeyond) i
+  module _ (r : Result Done Beyond) (up : UpwardIs f (loads_at f v) r i) (drawn : Pair) (fine : d ≡ Ok drawn) where
+    pub worked-over : (x : Beyond) → r ≡ Err x → WorkedIs f v (Err CurrentBeyond) i
     unfolding currents
-    worked-over o =
+    worked-over x o =
         let w = draw-ok (zero_voltage f v) (load_beyond f v) _ drawn (sym of.draw-is ∙ fine) in
-        let q : current_beyond f (currents f v) ≡ true = not-false-of up.ok-is o in
+        let q : current_beyond f (currents f v) ≡ true = was-beyond _ x (sym up.answer-is ∙ o) in
         record { work-is = rw (w.0, w.1, q); currents-are = tt }
 
-    pub worked-fine : ok ≡ true → WorkedIs f v (Ok drawn) i
+    pub worked-fine : (u : Done) → r ≡ Ok u → WorkedIs f v (Ok drawn) i
     unfolding currents
-    worked-fine o =
+    worked-fine u o =
         let w = draw-ok (zero_voltage f v) (load_beyond f v) _ drawn (sym of.draw-is ∙ fine) in
-        let q : current_beyond f (currents f v) ≡ false = not-true-of up.ok-is o in
-        record { work-is = rw (w.0, w.1, q, w.2); currents-are = up.at-is o }
+        let q : current_beyond f (currents f v) ≡ false = was-within _ u (sym up.answer-is ∙ o) in
+        record { work-is = rw (w.0, w.1, q, w.2); currents-are = subst (λ (y : Result Done Beyond). OnOk y (i ≡ kept zero3 201 (upwards f (loads_at f v)))) o up.at-is }
 
 -- ---- what the answer says
 -- currents, and the power drawn with them: none of 30 to 32 holds

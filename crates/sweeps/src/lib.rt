@@ -2,22 +2,24 @@
 #![tactic(auto)]
 
 ghost use Rattle.std.specs.Prelude.{◌≡◌, ℕ, ◌+◌, ◌<◌, get_or, OnOk};
-ghost use Rattle.arrays.specs.Arrays.{Spare, network_of, threes_of};
+ghost use Rattle.arrays.specs.Arrays.{Spare};
 ghost use Rattle.feeder.specs.Feeder.{Feeder};
 ghost use Rattle.feeder.specs.Network.{Held};
 ghost use Rattle.equations.specs.Equations.{zero3};
 ghost use Rattle.equations.specs.Sizes.{Within3};
 ghost use Rattle.passes.specs.Passes.{DownwardIs, Sized};
 ghost use Rattle.sweeps.specs.Sweeps.{Known, SmallWork, WorkedIs, refusal_of, work_error};
+ghost use Rattle.sweeps.specs.declared.WorkError.TheVariants.{CurrentBeyond};
 
 use answers::Refusal;
-use arrays::{Branches, Loads, Names, Places, Settings, Threes, clear_threes};
+use arrays::{Threes, clear_threes};
 use draws::draw;
+use feeder::Network;
 use integers::Pair;
 use loads::LoadError;
-use passes::{downward_pass, upward_pass};
+use passes::{Beyond, downward_pass, upward_pass};
 
-// Why no currents were found: which of document 01's refusals 30, 31 and 32 holds.
+// Why no currents were found: which of document 01's refusals 30, 31 and 32 holds. An error enum, the Err of a Result, and not of the shape of Option.
 #[derive(Clone, Copy, PartialEq, Eq)]
 pub enum WorkError {
     ZeroVoltage,
@@ -36,6 +38,14 @@ impl From<LoadError> for WorkError {
     }
 }
 
+impl From<Beyond> for WorkError {
+    ghost from_gives = { λ e x. x ≡ CurrentBeyond };
+
+    fn from(_: Beyond) -> WorkError {
+        WorkError::CurrentBeyond
+    }
+}
+
 impl WorkError {
     // The refusal, with the sweep in which it holds.
     pub fn refusal(self, sweep: usize) -> Refusal
@@ -50,53 +60,30 @@ impl WorkError {
 }
 
 // The currents from the voltages v: what the loads draw, then upward to the source. The power drawn by the loads is returned, and `i` becomes the current at each
-// node, all current taken there at the source. At entry `i` may hold anything at the nodes, and only these places are cleared. The names of the nodes stand in the promise only.
-pub fn work_currents(
-    settings: Settings,
-    nodes: &Names,
-    branches: &Branches,
-    loads: &Loads,
-    order: &Places,
-    rank: &Places,
-    v: &Threes,
-    i: &mut Threes,
-) -> Result<Pair, WorkError>
-    requires known { Known (network_of settings nodes.now branches.now loads.now order.now rank.now) }
-    requires by_index { (k : ℕ) → Within3 2000000 (get_or (threes_of v.now) k zero3) }
-    requires spare_2 { Spare settings.rows (threes_of i.old) }
-    ensures value { (f : Feeder) → Held f (network_of settings nodes.now branches.now loads.now order.now rank.now) → WorkedIs f (threes_of v.now) result (threes_of i.new) }
-    ensures size { SmallWork settings.rows result (threes_of i.new) }
-    ensures spare { OnOk result (Spare settings.rows (threes_of i.new)) }
+// node, all current taken there at the source. At entry `i` may hold anything at the nodes, and only these places are cleared.
+pub fn work_currents(network: &Network, v: &Threes, i: &mut Threes) -> Result<Pair, WorkError>
+    requires known { Known network.now }
+    requires by_index { (k : ℕ) → Within3 2000000 (get_or v.now k zero3) }
+    requires spare_2 { Spare network.now.rows i.old }
+    ensures value { (f : Feeder) → Held f network.now → WorkedIs f v.now result i.new }
+    ensures size { SmallWork network.now.rows result i.new }
+    ensures spare { OnOk result (Spare network.now.rows i.new) }
 {
-    clear_threes(i, settings.rows);
-    let drawn = draw(loads, settings.count, v, i)?;
-    if upward_pass(branches, settings.rows, order, rank, i) {
-        Ok(drawn)
-    } else {
-        Err(WorkError::CurrentBeyond)
-    }
+    clear_threes(i, network.rows);
+    let drawn = draw(network, v, i)?;
+    upward_pass(network, i)?;
+    Ok(drawn)
 }
 
-// The voltages from the source downward with the currents i, or that one is beyond its limit: refusal 33. The names of the nodes and the loads stand in the
-// promise only.
-pub fn work_voltages(
-    settings: Settings,
-    nodes: &Names,
-    branches: &Branches,
-    loads: &Loads,
-    order: &Places,
-    rank: &Places,
-    i: &Threes,
-    v: &mut Threes,
-) -> bool
-    requires known { Known (network_of settings nodes.now branches.now loads.now order.now rank.now) }
-    requires by_index { (k : ℕ) → 0 < k → k < settings.rows + 1 → Within3 2000000 (get_or (threes_of i.now) k zero3) }
-    requires spare_2 { Spare settings.rows (threes_of v.old) }
-    requires by_index_2 { (k : ℕ) → Within3 2000000 (get_or (threes_of v.old) k zero3) }
-    ensures value { (f : Feeder) → Held f (network_of settings nodes.now branches.now loads.now order.now rank.now) → DownwardIs f (threes_of i.now) result (threes_of v.new) }
-    ensures size { Sized 2000000 (threes_of v.new) }
-    ensures spare { Spare settings.rows (threes_of v.new) }
+// The voltages from the source downward with the currents i, or that one is beyond its limit: refusal 33.
+pub fn work_voltages(network: &Network, i: &Threes, v: &mut Threes) -> Result<(), Beyond>
+    requires known { Known network.now }
+    requires by_index { (k : ℕ) → 0 < k → k < network.now.rows + 1 → Within3 2000000 (get_or i.now k zero3) }
+    requires spare_2 { Spare network.now.rows v.old }
+    requires by_index_2 { (k : ℕ) → Within3 2000000 (get_or v.old k zero3) }
+    ensures value { (f : Feeder) → Held f network.now → DownwardIs f i.now result v.new }
+    ensures size { Sized 2000000 v.new }
+    ensures spare { Spare network.now.rows v.new }
 {
-    let source = settings.source;
-    downward_pass(branches, settings.rows, order, rank, source, i, v)
+    downward_pass(network, i, v)
 }

@@ -1,6 +1,4 @@
 pub mod Read
-pub mod ReadLaws
 pub mod TableLaws
-pub mod HeldLaws
 pub mod LineLaws
 pub mod LayoutLaws

@@ -1,8 +1,8 @@
 -- A table's rows, read one after the other. Assumes nothing.
-use Rattle.std.specs.Prelude.{Bool, false, true, List, [], ◌++◌, ◌∷◌, ◌≡◌, drop, length, Ok, Err}
+use Rattle.std.specs.Prelude.{Bool, false, true, List, [], ◌++◌, ◌∷◌, ◌≡◌, drop, length, replicate, Ok, Err}
 use Rattle.std.proofs.Common.{append_assoc, append-nil, ap, sym, ◌∙◌, add-zero, not-suc-le-zero, zero-add, length-append}
 use Rattle.std.proofs.Math.Path.{refl}
-use Prim.Native.Nat.{◌+◌, ◌-◌, ◌<◌, ◌≤◌, suc, zero, ℕ}
+use Prim.Native.Nat.{◌+◌, ◌-◌, ◌<◌, suc, zero, ℕ}
 use Prim.Native.String.{String}
 use Rattle.std.proofs.Math.Nat.{sub-zero}
 use native.Mathlib.Omega.{arith}
@@ -12,6 +12,8 @@ use Rattle.answers.specs.declared.Refusal.TheVariants.{Layout}
 use Rattle.text.specs.Lines.{text}
 use Rattle.text.specs.Text.{begins, bytes, Placed}
 use Rattle.feeder.specs.Layout.{branch_row, branch_table, empty_line, file_end, load_row, load_table, rows, source_table}
+use Rattle.feeder.specs.Network.{kept}
+use Rattle.feeder.specs.NetworkLaws.{blank-kept}
 use Rattle.feeder.specs.declared.BranchRow.{BranchRow}
 use Rattle.feeder.specs.declared.LoadRow.{LoadRow}
 use Rattle.text.specs.LineLaws.{text-missing, text-stands}
@@ -50,37 +52,33 @@ module _ {X : Type 0} (read : Refusal → List ℕ → ℕ → Outcome (Placed X
       let m : suc f - 1 ≡ f = omega arith in
       simp (e, k, m)
 
--- ---- the loop: n rows have been read from the place `from` on, which stands in a line, the arrays hold them, and the next row is due at the place `at`
-pub record Going {X : Type 0} (read : Refusal → List ℕ → ℕ → Outcome (Placed X)) (over : ℕ → Bool) (holds : List X → Type 0) (s : List ℕ) (line from at n : ℕ) : Type 0 where
+-- ---- the loop: n rows have been read from the place `from` on, which stands in a line, an array keeps them, and the next row is due at the place `at`
+pub record Going {X : Type 0} (read : Refusal → List ℕ → ℕ → Outcome (Placed X)) (over : ℕ → Bool) (d : X) (room : ℕ) (s : List ℕ) (line from at n : ℕ) (cells : List X) : Type 0 where
   pub so_far : List X
   pub whole : rows read (length s) s line from over ≡ behind so_far (rows read (length s - n) s (line + n) at over)
   pub counted : n ≡ length so_far
-  pub held : holds so_far
-  pub ahead : n + from ≤ at
-  pub inside : at ≤ length s
+  pub held : cells ≡ kept d room so_far
 
-module _ {X : Type 0} {read : Refusal → List ℕ → ℕ → Outcome (Placed X)} {over : ℕ → Bool} {s : List ℕ} {line from : ℕ} where
-  pub going_start : {holds : List X → Type 0} → holds [] → from ≤ length s → Going read over holds s line from from 0
-  going_start e h = record {
+module _ {X : Type 0} (read : Refusal → List ℕ → ℕ → Outcome (Placed X)) (over : ℕ → Bool) (d : X) (room : ℕ) (s : List ℕ) (line from : ℕ) where
+  pub going_start : (cells : List X) → cells ≡ replicate room d → Going read over d room s line from from 0 cells
+  going_start cells e = record {
     so_far = [];
     whole = simp (sub-zero, add-zero) (sym (behind-none _));
     counted = refl;
-    held = e;
-    ahead = omega arith;
-    inside = h;
+    held = e ∙ blank-kept d room;
   }
 
-  module _ {at n : ℕ} {holds : List X → Type 0} (g : Going read over holds s line from at n) where
+  module _ (at n : ℕ) (cells : List X) (g : Going read over d room s line from at n cells) where
     pub going-over : over at ≡ true → rows read (length s) s line from over ≡ Ok (g.so_far, at)
     going-over e = g.whole ∙ simp (rows-over read over (length s - n) s (line + n) at e, append-nil)
 
-    module _ (some : 0 < from) (e : over at ≡ false) where
+    module _ (some : n < length s) (e : over at ≡ false) where
       pub going-bad : read (Layout (line + n)) s at ≡ Err (Layout (line + n)) → rows read (length s) s line from over ≡ Err (Layout (line + n))
       going-bad k = g.whole ∙ simp (rows-bad read over (length s - n) s (line + n) at (Layout (line + n)) (omega arith) e k)
 
-      pub going_next : (x : X) (next : ℕ) → read (Layout (line + n)) s at ≡ Ok (x, next) → (at < next) × (next ≤ length s) → (holds-now : List X → Type 0) → holds-now (g.so_far ++ (x ∷ [])) →
-          Going read over holds-now s line from next (n + 1)
-      going_next x next k p holds-now h =
+      pub going_next : (x : X) (next : ℕ) → read (Layout (line + n)) s at ≡ Ok (x, next) → (cells-now : List X) → cells-now ≡ kept d room (g.so_far ++ (x ∷ [])) →
+          Going read over d room s line from next (n + 1) cells-now
+      going_next x next k cells-now h =
           let f : length s - n - 1 ≡ length s - (n + 1) = omega arith in
           let m : line + n + 1 ≡ line + (n + 1) = omega arith in
           record {
@@ -88,8 +86,6 @@ module _ {X : Type 0} {read : Refusal → List ℕ → ℕ → Outcome (Placed X
             whole = g.whole ∙ simp (rows_next read over (length s - n) s (line + n) at x next (omega arith) e k, f, m) (behind-cons g.so_far x (rows read (length s - (n + 1)) s (line + (n + 1)) next over));
             counted = simp length-append (omega arith);
             held = h;
-            ahead = omega arith;
-            inside = p.1;
           }
 
 -- ---- the tables by their parts: the line of names, the rows, and the empty line behind the branches
@@ -100,13 +96,13 @@ module _ {Y : Type 0} (r : Refusal) (w : String) (s : List ℕ) (k : ℕ → Out
   unnamed : begins (bytes w) (drop 0 s) ≡ false → (text r w s 0 >>= k) ≡ Err r
   unnamed e = simp (text-missing r w s 0 e)
 
-pub source-named : (s : List ℕ) → begins (bytes source_names) (drop 0 s) ≡ true → source_table s ≡ source_from s 54
+pub source_named : (s : List ℕ) → begins (bytes source_names) (drop 0 s) ≡ true → source_table s ≡ source_from s 54
 unfolding source_table source_from bytes
-source-named s e = named (Layout 1) source_names s (source_from s) e
+source_named s e = named (Layout 1) source_names s (source_from s) e
 
-pub source-unnamed : (s : List ℕ) → begins (bytes source_names) (drop 0 s) ≡ false → source_table s ≡ Err (Layout 1)
+pub source_unnamed : (s : List ℕ) → begins (bytes source_names) (drop 0 s) ≡ false → source_table s ≡ Err (Layout 1)
 unfolding source_table source_from
-source-unnamed s e = unnamed (Layout 1) source_names s (source_from s) e
+source_unnamed s e = unnamed (Layout 1) source_names s (source_from s) e
 
 pub branches-named : (s : List ℕ) → begins (bytes branch_names) (drop 0 s) ≡ true → branch_table s ≡ branches_from s 59
 unfolding branch_table branches_from bytes

@@ -1,75 +1,88 @@
 // The feeder's three tables, read from its file. specs/Read.antt says what each reader answers.
 #![tactic(auto)]
 
-ghost use Rattle.std.specs.Prelude.{◌≡◌, [], ◌+◌, ◌≤◌, length, replicate, IfOk};
-ghost use Rattle.arrays.specs.Arrays.{no_numbers};
-ghost use Rattle.feeder.specs.Layout.{layout};
-ghost use Rattle.tables.specs.Read.{BranchesHeld, LayoutRead, LoadsHeld, rest_of};
+ghost use Rattle.std.specs.Prelude.{Bool, false, true, ◌≡◌, List, ◌++◌, ◌∷◌, [], ℕ, ◌+◌, ◌<◌, ◌≤◌, ◌^◌, length, replicate, IfOk, OnOk, Some};
+ghost use Rattle.answers.specs.Answers.{Outcome};
+ghost use Rattle.answers.specs.declared.Refusal.{Refusal};
+ghost use Rattle.feeder.specs.Layout.{layout, rows};
+ghost use Rattle.feeder.specs.Network.{kept, no_branch_row, no_load_row};
+ghost use Rattle.tables.specs.Read.{LayoutRead, Reads, RowsRead};
+ghost use Rattle.text.specs.Text.{Placed};
 
 use crate::branches::read_branches;
 use crate::loads::read_loads;
-use crate::source::{SourceRow, read_source};
+use crate::source::read_source;
 use answers::Refusal;
-use arrays::{Branches, LoadNames, Loads, Names};
+use feeder::Tables;
+use text::Placed;
 
 pub mod branches;
 pub mod loads;
 pub mod source;
 
-// The source row, the number of branch rows and the number of load rows.
-#[derive(Clone, Copy)]
-pub struct Tables {
-    pub source: u64,
-    pub given: [i64; 8],
-    pub rows: usize,
-    pub count: usize,
-}
-
-// The branches and the loads, behind the source's row.
-fn read_rest(
-    part: &[u8],
-    source: SourceRow,
-    froms: &mut Names,
-    nodes: &mut Names,
-    branches: &mut Branches,
-    names: &mut LoadNames,
-    loads: &mut Loads,
-) -> Result<Tables, Refusal>
-    requires branches { BranchesHeld source.name froms.old nodes.old branches.old [] }
-    requires loads { LoadsHeld names.old loads.old [] }
-    ensures value { LayoutRead (rest_of source.name source.given part.now) result froms.new nodes.new branches.new names.new loads.new }
-    ensures few { IfOk result (λ t. t.rows + t.count ≤ length part.now) }
+// One row more behind the n that were stored, if it finds a place.
+#[tactic(auto, using(feeder::specs::NetworkLaws::kept_full, feeder::specs::NetworkLaws::kept_next))]
+fn store<X: Copy, const N: usize>(n: usize, row: X, rows: &mut [X; N])
+    ensures { (d : X) (l : List X) → n ≡ length l → rows.old ≡ kept d N l → rows.new ≡ kept d N (l ++ (row ∷ [])) }
 {
-    let (rows, p) = read_branches(part, source.name, froms, nodes, branches)?;
-    let count = read_loads(&part[p..], rows + 6, names, loads)?;
-    let given = source.given;
-    Ok(Tables {
-        source: source.name,
-        given,
-        rows,
-        count,
-    })
+    if n < N {
+        rows[n] = row;
+    }
 }
 
-// The tables of a file, or refusal 10 with the first line that cannot go on a good file. The arrays are handed over as zeros: the names of the from-nodes and
-// the nodes, the branches, the names of the loads' nodes, and the loads. Rows past 200 or 300 are counted, and not kept.
-pub fn read_layout(
-    file: &[u8],
-    froms: &mut Names,
-    nodes: &mut Names,
-    branches: &mut Branches,
-    names: &mut LoadNames,
-    loads: &mut Loads,
-) -> Result<Tables, Refusal>
-    requires froms { froms.old ≡ replicate 201 0 }
-    requires nodes { nodes.old ≡ replicate 201 0 }
-    requires branches { branches.old ≡ replicate 201 (no_numbers 17) }
-    requires names { names.old ≡ replicate 300 0 }
-    requires loads { loads.old ≡ replicate 300 (no_numbers 6) }
-    ensures value { LayoutRead (layout file.now) result froms.new nodes.new branches.new names.new loads.new }
-    ensures few { IfOk result (λ t. t.rows + t.count ≤ length file.now) }
+// The number of a table's rows, from a place on that stands in a line, up to the table's end, and the place where it ends. Those that find no place are read
+// and counted, and not kept. A row's reader and the test of the end are given with the part of the file and a place.
+fn read_rows<
+    X: Copy,
+    const N: usize,
+    R: Fn(&[u8], usize) -> Option<Placed<X>>,
+    E: Fn(&[u8], usize) -> bool,
+>(
+    part: &[u8],
+    line: usize,
+    from: usize,
+    read: R,
+    ends: E,
+    table: &mut [X; N],
+) -> Result<Placed<usize>, Refusal>
+    requires reach { (0 < from) × (from ≤ length part.now) × (line + length part.now ≤ 2 ^ 64) }
+    requires read { R.IsAlwaysCallable read }
+    requires ends { E.IsAlwaysCallable ends }
+    requires past { (at : ℕ) (x : X) (n : ℕ) → at ≤ length part.now → R.post read part at (Some (x, n)) → (at < n) × (n ≤ length part.now) }
+    ensures value { (row : Refusal → List ℕ → ℕ → Outcome (Placed X)) (over : ℕ → Bool) (d : X) →
+        Reads row over part.now (R.post read) (E.post ends) →
+        table.old ≡ replicate N d →
+        RowsRead d N (rows row (length part.now) part.now line from over) result table.new }
+    ensures end { IfOk result (λ x. (x.0 + from ≤ x.1) × (x.1 ≤ length part.now) × E.post ends part.entry x.1 true) }
+{
+    let mut at = from;
+    let mut n = 0;
+    // A while, since the number of rows shows only at the table's end.
+    while !ends(part, at) {
+        let Some((row, next)) = read(part, at) else {
+            return Err(Refusal::Layout(line + n));
+        };
+        store(n, row, table);
+        at = next;
+        n += 1;
+    }
+    Ok((n, at))
+}
+
+// The tables of a file, or refusal 10 with the first line that cannot go on a good file. Rows past 200 or 300 are counted, and not kept.
+pub fn read_layout(file: &[u8], tables: &mut Tables) -> Result<(), Refusal>
+    requires branches { tables.old.branches ≡ replicate 200 no_branch_row }
+    requires loads { tables.old.loads ≡ replicate 300 no_load_row }
+    ensures value { LayoutRead (layout file.now) result tables.new }
+    ensures few { OnOk result (tables.new.rows + tables.new.count ≤ length file.now) }
 {
     let (source, p) = read_source(file)?;
-    nodes[0] = source.name;
-    read_rest(&file[p..], source, froms, nodes, branches, names, loads)
+    let given = source.given;
+    tables.source = source.name;
+    tables.given = given;
+    let part = &file[p..];
+    let (rows, q) = read_branches(part, &mut tables.branches)?;
+    tables.rows = rows;
+    tables.count = read_loads(&part[q..], rows + 6, &mut tables.loads)?;
+    Ok(())
 }

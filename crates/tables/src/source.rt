@@ -16,6 +16,7 @@ pub struct SourceRow {
 }
 
 // The table's row and the empty line behind it.
+#[tactic(auto, unfolding(crate::specs::Read::source_from, text::specs::Lines::row, text::specs::Lines::names, text::specs::Lines::text, text::specs::Text::bytes))]
 fn read_row(file: &[u8], from: usize) -> Result<Placed<SourceRow>, Refusal>
     ensures value { source_from file.now from ≡ source_read result }
     ensures past { IfOk result (λ x. x.1 ≤ length file.now) }
@@ -30,6 +31,7 @@ fn read_row(file: &[u8], from: usize) -> Result<Placed<SourceRow>, Refusal>
 }
 
 // The source table, and the place behind it.
+#[tactic(auto, unfolding(text::specs::Text::bytes), using(crate::specs::TableLaws::source_named, crate::specs::TableLaws::source_unnamed))]
 pub fn read_source(file: &[u8]) -> Result<Placed<SourceRow>, Refusal>
     ensures value { source_table file.now ≡ source_read result }
     ensures past { IfOk result (λ x. x.1 ≤ length file.now) }

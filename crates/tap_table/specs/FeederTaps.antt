@@ -1,6 +1,6 @@
 -- Of arrays that hold a feeder: its own rows of the last table, and the taps that the table's rows give by node number. Assumes nothing.
-use Rattle.std.proofs.Math.Bool.{Bool, cond, false, not, true}
-use Rattle.std.specs.Prelude.{◌&&◌, ◌≡◌, pos, length, Err}
+use Rattle.std.proofs.Math.Bool.{Bool, cond, false, true}
+use Rattle.std.specs.Prelude.{◌&&◌, ◌≡◌, length, Err}
 use mathlib.Core.List.{List, [], ◌∷◌, map}
 use Rattle.std.proofs.Common.{◌∙◌, eq-eqb, ne_eqb}
 use Rattle.std.proofs.Math.Path.{ap, refl, sym}
@@ -8,21 +8,19 @@ use Prim.Native.Nat.{◌+◌, ◌-◌, ◌<◌, ◌≤◌, suc, zero, ℕ}
 use native.Mathlib.Omega.{arith}
 use Rattle.std.proofs.Math.ListN.{get_or-eq_default, get_or, length-map}
 use Rattle.answers.specs.declared.Refusal.TheVariants.{ReportLayout}
-use Rattle.arrays.specs.Arrays.{is_on}
-use Rattle.feeder.specs.Feeder.{Feeder, branch_at, level_of, no_branch, no_taps, place_of, regulates, regulators, row_count, rows_of, taps_on}
+use Rattle.feeder.specs.Feeder.{Feeder, branch_at, moves_taps, no_branch, no_taps, place_of, regulates, regulators, row_count, rows_of, taps_on}
 use Rattle.feeder.specs.Network.{branch_array, kept}
 use Rattle.feeder.specs.NetworkLaws.{get_or_kept, kept-below}
 use Rattle.feeder.proofs.TapLaws.{all-chosen, few-regulators}
 use Rattle.feeder.specs.declared.Branch.{Branch}
-use Rattle.feeder.specs.Phased.{Phases, Taps}
+use Rattle.feeder.specs.Phased.{Taps}
 use Rattle.integers.specs.Bools.{clash}
 use Rattle.integers.specs.ListLaws.{all-tab}
 use Rattle.integers.specs.Lists.{All, all, any, chosen, count, tab}
-use Rattle.integers.specs.Pairs.{inside}
 use Rattle.report.specs.Report.{no_row, tap_row, taps_fit, taps_given, unfiled_taps}
 use Rattle.tap_table.specs.OwnLaws.{image-at}
 use Rattle.tap_table.specs.OwnRows.{OwnHeld, fits_from, given_at, given_taps, levels_from, regulators_before}
-use Rattle.tap_table.specs.Regulators.{fits-three, regulates_in, regulators-held, regulators_from, tap_fits}
+use Rattle.tap_table.specs.Regulators.{none-fit, regulates_in, regulators-held, regulators_from}
 use Rattle.tap_table.specs.TapTable.{TapsHeld, taps_at}
 use Rattle.text.specs.Lines.{Row, word_of}
 
@@ -89,26 +87,17 @@ place_none c k (m ∷ l) e = go (c m) refl (place_none c k l e)
     go true h r = rw (ne_eqb k m (λ z. clash (c k) (ap c z ∙ h) e)) (ap suc r)
     go false h r = r
 
--- no taps fit any phases
-none-fit : (f : Phases) → taps_fit f no_taps ≡ true
-unfolding inside
-none-fit f = fits-three f no_taps ∙ (λ i. one f.a i && (one f.b i && one f.c i))
-  where
-    one : (b : Bool) → tap_fits b (pos 0) ≡ true
-    one true = refl
-    one false = refl
-
 module _ (f : Feeder) (few : row_count f ≤ 200) where
   array_at : (k : ℕ) → get_or (branch_array f) k no_branch ≡ branch_at f k
   unfolding branch_at
   array_at k = get_or_kept no_branch 201 (no_branch ∷ f.branches) k (omega arith)
 
   -- ---- a report without the last table
-  levels-held : levels_from (branch_array f) 1 (row_count f) ≡ any (λ k. not (inside 0 (level_of (branch_at f k).device))) (rows_of f)
-  unfolding levels_from is_on
+  levels-held : levels_from (branch_array f) 1 (row_count f) ≡ any (λ k. moves_taps (branch_at f k).device) (rows_of f)
+  unfolding levels_from
   levels-held =
       let z : suc (row_count f) - 1 ≡ row_count f = omega arith in
-      λ i. any (λ k. not (inside 0 (level_of (array_at k i).device))) (count 1 (z i))
+      λ i. any (λ k. moves_taps (array_at k i).device) (count 1 (z i))
 
   pub levels-refused : levels_from (branch_array f) 1 (row_count f) ≡ true → unfiled_taps f ≡ Err ReportLayout
   unfolding unfiled_taps

@@ -1,7 +1,6 @@
 -- The rows of the last table by an array of branches: those that a feeder has of its own, and the taps that rows give each branch. Assumes nothing.
 use Rattle.std.specs.Prelude.{Bool, cond, List, ◌∷◌, map, ◌≡◌, ◌-◌, suc, ℕ, get_or, length}
-use Rattle.arrays.specs.Arrays.{is_on}
-use Rattle.feeder.specs.Feeder.{level_of, no_branch, no_taps, taps_on}
+use Rattle.feeder.specs.Feeder.{moves_taps, no_branch, no_taps, taps_on}
 use Rattle.feeder.specs.Network.{kept}
 use Rattle.feeder.specs.declared.Branch.{Branch}
 use Rattle.feeder.specs.Phased.{Taps}
@@ -11,7 +10,7 @@ use Rattle.tap_table.specs.Regulators.{regulates_in}
 
 -- whether one of the rows k to n has a level
 unfoldable pub levels_from : List Branch → ℕ → ℕ → Bool
-levels_from bs k n = any (λ i. is_on (level_of (get_or bs i no_branch).device)) (count k (suc n - k))
+levels_from bs k n = any (λ i. moves_taps (get_or bs i no_branch).device) (count k (suc n - k))
 
 -- the regulators among the rows in front of row k
 unfoldable pub regulators_before : List Branch → ℕ → List ℕ

@@ -1,12 +1,11 @@
 -- The regulators among the rows of an array of branches, and taps that a report may have. Assumes nothing.
-use mir.Val.{bool_byte}
-use Rattle.std.specs.Prelude.{Bool, ◌&&◌, ◌||◌, cond, false, true, List, [], ◌∷◌, ◌≡◌, refl, ◌+◌, ◌-◌, ◌≤◌, suc, zero, ℕ, ℤ, get_or, length}
+use Rattle.std.specs.Prelude.{Bool, ◌&&◌, ◌||◌, cond, false, true, List, [], ◌∷◌, ◌≡◌, refl, ◌+◌, ◌-◌, ◌≤◌, suc, zero, ℕ, pos, ℤ, get_or, length}
 use Rattle.std.proofs.Math.Bool.{and-true}
 use Rattle.std.proofs.Common.{◌∙◌, ap, arith}
 use Rattle.std.specs.List.{filter, list_any, range_with_len}
 use Rattle.feeder.proofs.TapLaws.{length-chosen}
 use Rattle.integers.specs.ListLaws.{length-tab}
-use Rattle.feeder.specs.Feeder.{Feeder, branch_at, no_branch, regulates, regulators, row_count}
+use Rattle.feeder.specs.Feeder.{Feeder, branch_at, no_branch, no_taps, regulates, regulators, row_count}
 use Rattle.feeder.specs.Network.{branch_array}
 use Rattle.feeder.specs.NetworkLaws.{get_or_kept}
 use Rattle.feeder.specs.declared.Branch.{Branch}
@@ -55,15 +54,6 @@ regulators-few bs n =
     let z : suc n - 1 ≡ n = omega arith in
     rw z (omega (arith, length-chosen (regulates_in bs) (tab (λ (i : ℕ). i) 1 n), length-tab (λ (i : ℕ). i) 1 n))
 
-pub one-most : (d : Bool) → cond d 1 0 ≤ 1
-one-most true = omega arith
-one-most false = omega arith
-
--- what a bool counts as a number
-pub one_if : (d : Bool) → bool_byte d ≡ cond d 1 0
-one_if true = refl
-one_if false = refl
-
 -- of an array that holds a feeder they are the feeder's
 pub regulators-held : (f : Feeder) → row_count f ≤ 200 → regulators_from (branch_array f) 1 (row_count f) ≡ regulators f
 unfolding regulators_from regulators branch_at
@@ -79,3 +69,12 @@ tap_fits present z = inside 16 z && cond present true (inside 0 z)
 pub fits-three : (f : Phases) (t : Taps) → taps_fit f t ≡ (tap_fits f.a t.a && (tap_fits f.b t.b && tap_fits f.c t.c))
 unfolding taps_fit all
 fits-three f t = ap (λ (b : Bool). tap_fits f.a t.a && (tap_fits f.b t.b && b)) (and-true (tap_fits f.c t.c))
+
+-- no taps fit any phases
+pub none-fit : (f : Phases) → taps_fit f no_taps ≡ true
+unfolding inside
+none-fit f = fits-three f no_taps ∙ (λ i. one f.a i && (one f.b i && one f.c i))
+  where
+    one : (b : Bool) → tap_fits b (pos 0) ≡ true
+    one true = refl
+    one false = refl

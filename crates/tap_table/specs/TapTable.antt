@@ -24,9 +24,6 @@ pub record TapRowHeld (s : List ℕ) (at : ℕ) (r : TapRow) (next : ℕ) : Type
 abbrev pub TapRowIs : List ℕ → ℕ → Option (Placed TapRow) → Type 0
 TapRowIs s at r = Answer (row ReportLayout 1 3 s at) r (λ x. TapRowHeld s at x.0 x.1)
 
-abbrev pub taps_of : List (List ℤ) → List Taps
-taps_of l = map taps_at l
-
 -- o is the table of n rows that the arrays hold
 pub record TapsHeld (o : Outcome (List Row)) (n : ℕ) (names : List ℕ) (taps : List Taps) : Type 0 where
   pub list : List Row

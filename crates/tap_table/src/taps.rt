@@ -1,21 +1,16 @@
 // The last table: a row for each regulator.
-ghost use Rattle.std.specs.Prelude.{◌≡◌, ◌≤◌, length, replicate, set};
-ghost use Rattle.arrays.specs.Arrays.{branches_of};
+ghost use Rattle.std.specs.Prelude.{◌≡◌, ◌≤◌, length, replicate};
 ghost use Rattle.tap_table.specs.Regulators.{regulators_from, tap_fits};
-ghost use Rattle.tap_table.specs.TapTable.{TapRowIs, TapsAre, taps_at, taps_of};
+ghost use Rattle.tap_table.specs.TapTable.{TapRowIs, TapsAre};
 ghost use Rattle.feeder.specs.Feeder.{no_taps};
 ghost use Rattle.report.specs.Report.{tap_table, taps_fit};
 
-use arrays::{Branches, Names};
-use branch_taps::regulates_at;
-use feeder::{Phases, Taps};
+use arrays::{Names, TapRows};
+use feeder::{Network, Phases, Taps};
 use integers::whole;
 use text::Placed;
 use text::lines::{read_numbers, stands};
 use text::read::read_name;
-
-// The taps of the table's rows.
-pub type TapRows = [[i64; 3]; 201];
 
 // A row: the name and the taps.
 #[derive(Clone, Copy)]
@@ -24,43 +19,27 @@ pub struct TapRow {
     pub taps: Taps,
 }
 
-// The taps of a stored row: three numbers, as a tap for each phase.
-pub fn row_taps(n: &[i64; 3]) -> Taps
-    ensures { result ≡ taps_at n.now }
-{
-    Taps {
-        a: n[0],
-        b: n[1],
-        c: n[2],
-    }
-}
-
-// The row at a place.
+// The row at a place. It takes the whole text and the place `at`, as the readers of crate text do.
 pub fn read_tap_row(s: &[u8], at: usize) -> Option<Placed<TapRow>>
     ensures { TapRowIs s.now at result }
 {
     let (name, p) = read_name(s, at, b',')?;
     let mut values = [0i64; 3];
     let next = read_numbers(s, p, &mut values)?;
-    let taps = row_taps(&values);
+    let taps = Taps {
+        a: values[0],
+        b: values[1],
+        c: values[2],
+    };
     Some((TapRow { name, taps }, next))
 }
 
-// Stores the taps of a row at place k.
-pub fn store_taps(taps: &mut TapRows, k: usize, x: Taps)
-    requires { k ≤ 200 }
-    ensures { taps_of taps.new ≡ set (taps_of taps.old) k x }
-{
-    taps[k] = [x.a, x.b, x.c];
-}
-
 // Whether the table of just so many rows stands at the start of a part of the report, which has to end with it.
-// A bool and not an Option, since nothing is handed back but whether it stands there.
 pub fn read_tap_table(part: &[u8], count: usize, names: &mut Names, taps: &mut TapRows) -> bool
     requires count_bound { count ≤ 200 }
     requires names_value { names.old ≡ replicate 201 0 }
-    requires taps_value { taps_of taps.old ≡ replicate 201 no_taps }
-    ensures { TapsAre (tap_table count part.now) result count names.new (taps_of taps.new) }
+    requires taps_value { taps.old ≡ replicate 201 no_taps }
+    ensures { TapsAre (tap_table count part.now) result count names.new taps.new }
 {
     if !stands(part, 0, b"to,tap_a,tap_b,tap_c\n") {
         return false;
@@ -71,19 +50,20 @@ pub fn read_tap_table(part: &[u8], count: usize, names: &mut Names, taps: &mut T
             return false;
         };
         names[k] = row.name;
-        store_taps(taps, k, row.taps);
+        taps[k] = row.taps;
         at = next;
     }
     at == part.len()
 }
 
 // How many of the branch rows are regulators: the rows that the table has.
-pub fn regulator_count(branches: &Branches, rows: usize) -> usize
-    requires { rows ≤ 200 }
-    ensures value { result ≡ length (regulators_from (branches_of branches.now) 1 rows) }
+pub fn regulator_count(network: &Network) -> usize
+    ensures value { result ≡ length (regulators_from network.now.branches 1 network.now.rows) }
     ensures few { result ≤ 200 }
 {
-    (1..rows + 1).filter(|k| regulates_at(branches, *k)).count()
+    (1..network.rows + 1)
+        .filter(|k| network.branches[*k].device.regulates())
+        .count()
 }
 
 // Whether a tap is within ±16, and 0 on an absent phase.
@@ -97,5 +77,5 @@ fn tap_fits(present: bool, tap: i64) -> bool
 pub fn taps_fit(phases: Phases, t: Taps) -> bool
     ensures { result ≡ taps_fit phases t }
 {
-    tap_fits(phases.a, t.a) && tap_fits(phases.b, t.b) && tap_fits(phases.c, t.c)
+    phases.zip(t, tap_fits).all()
 }

@@ -101,6 +101,8 @@ fn phase_tap(present: bool, x: TapChanger, u: Pair, i: Pair, tap: i64) -> i64
     moved_tap(x, r, tap)
 }
 
+// Three calls and no zip: zip joins two things of a phase, and here are four: whether the phase is present, its voltage, its current and its tap.
+//
 // A regulator's taps after a move: those of its present phases, and none where its level is 0.
 pub fn moved_taps(x: TapChanger, f: Phases, u: Three, i: Three) -> Taps
     requires changer_ok { ChangerOk x }
@@ -118,7 +120,7 @@ pub fn moved_taps(x: TapChanger, f: Phases, u: Three, i: Three) -> Taps
     Taps { a, b, c }
 }
 
-// Whether all three taps are the same.
+// Whether all three taps are the same. It is t == u by the definition's name, which crate compare cites.
 pub fn same_taps(t: Taps, u: Taps) -> bool
     ensures { result ≡ same_taps t u }
 {

@@ -1,4 +1,4 @@
-// A line's numbers, and lines that are given word for word.
+// A line's numbers, and lines that are given word for word. They take the whole text and the place `at`, as the readers of read.rt do.
 ghost use Rattle.std.specs.Prelude.{◌≡◌, ℕ, ◌<◌, ◌≤◌, length, drop};
 ghost use Rattle.answers.specs.declared.Refusal.{Refusal};
 ghost use Rattle.text.specs.Text.{bytes, begins};

@@ -1,4 +1,6 @@
 // Readers of fields. Each is given the byte that has to stand behind the field: a comma, or LF at the line's end.
+// A reader takes the whole text and the place `at`, and hands on the place behind, as the definitions do: in a text that is cut at each field each place would
+// be counted from another start.
 ghost use Rattle.std.specs.Prelude.{◌≡◌, ℕ, ◌<◌, ◌≤◌, ℤ, length, drop};
 ghost use Rattle.text.specs.Text.{digit, more, natural, number_at, letter, name_at};
 

@@ -6,6 +6,10 @@ ghost use Rattle.text.specs.Promises.{Written};
 
 use integers::whole;
 
+// All of them write by hand, as nothing is on the heap and each byte of the buffer is promised: Display and write! promise no bytes of a buffer that is lent.
+// They take the whole buffer and the place `at`, and hand on the place behind: a slice that is cut at each field would have to be put together again in each
+// promise.
+
 // One byte: a comma, or LF.
 pub fn put_byte(out: &mut [u8], at: usize, b: u8) -> usize
     requires { at + 1 ≤ length out.old }

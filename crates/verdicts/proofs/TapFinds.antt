@@ -1,6 +1,6 @@
 -- 56 (02, S-5): the search finds the first row of the last table of which a tap could still move as wanted, or is not the feeder's where level is 0. Assumes
 -- nothing.
-use Rattle.std.specs.Prelude.{Bool, ◌⊎◌, ◌≡◌, leb, ◌*ℤ◌, ◌+ℤ◌, ◌-ℤ◌, nat_abs, ℤ, List, [], ◌∷◌, get_or, length}
+use Rattle.std.specs.Prelude.{Bool, ◌⊎◌, ◌≡◌, leb, ◌*ℤ◌, ◌+ℤ◌, ◌-ℤ◌, nat_abs, ℤ, List, [], ◌∷◌, get_or, length, None}
 use Rattle.std.proofs.Math.Bool.{cond, false, not, true}
 use Rattle.std.proofs.Math.Logic.{inl, inr, ⊎_elim}
 use Rattle.std.proofs.Common.{◌∙◌, subst, mul-le-mul, leb-true, ltb-true}
@@ -26,7 +26,6 @@ use Rattle.feeder.proofs.FeederLaws.{Sound, branch-is, row-count, row_of}
 use Rattle.feeder.proofs.RowFacts.{branch-in, column-in}
 use Rattle.feeder.proofs.TapLaws.{all-chosen, branch-tapped, count-tapped, inside-zero, place-regulator}
 use Rattle.feeder.specs.declared.BranchRow.{BranchRow}
-use Rattle.feeder.specs.declared.Column.TheVariants.{Unused}
 use Rattle.feeder.specs.declared.Device.TheVariants.{Line, Regulator, Transformer}
 use Rattle.feeder.specs.declared.Kind.{Kind}
 use Rattle.feeder.specs.declared.Kind.TheVariants.{D, L, R, Y}
@@ -163,7 +162,7 @@ kind-positive R p e d g =
       band = λ n. rw (← b) (go (inside 0 (nth p 4)) (rw l n) (column-in R p e 4 (omega arith)));
     }
   where
-    go : (c : Bool) → c ≡ false → in_limit (get_or (cond c [] (centivolts ∷ ratio ∷ ratio ∷ impedance no_phases ∷ impedance no_phases ∷ [])) 0 Unused) (nth p 5) ≡ true → le_z (pos 0) (nth p 5) ≡ true
+    go : (c : Bool) → c ≡ false → in_limit (get_or (cond c [] (centivolts ∷ ratio ∷ ratio ∷ impedance no_phases ∷ impedance no_phases ∷ [])) 0 None) (nth p 5) ≡ true → le_z (pos 0) (nth p 5) ≡ true
     go true n h = clash true refl n
     go false n h = (both (le_z (pos 0) (nth p 5)) _ h).0
 

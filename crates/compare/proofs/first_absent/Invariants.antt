@@ -2,9 +2,8 @@
 use mathlib.Core.Bool.{false}
 use mathlib.Core.Path.{◌≡◌}
 use Prim.Native.Nat.{◌<◌, ℕ}
-use Rattle.arrays.specs.Arrays.{branches_of, threes_of}
 use Rattle.compare.specs.Compare.{absent_differs}
 use Rattle.compare.proofs.first_absent.Given as goal
 
 abbrev pub invariant-loop-k : goal.invariant-loop-k
-invariant-loop-k l = (j : ℕ) → j < l.k → absent_differs (branches_of l.branches) (threes_of l.voltages) j ≡ false
+invariant-loop-k l = (j : ℕ) → j < l.k → absent_differs l.network.branches l.voltages j ≡ false

@@ -2,9 +2,8 @@
 use mathlib.Core.Bool.{false}
 use mathlib.Core.Path.{◌≡◌}
 use Prim.Native.Nat.{◌<◌, ℕ}
-use Rattle.arrays.specs.Arrays.{branches_of}
 use Rattle.compare.specs.Compare.{names_differ}
 use Rattle.compare.proofs.first_branch_name.Given as goal
 
 abbrev pub invariant-loop-k : goal.invariant-loop-k
-invariant-loop-k l = (j : ℕ) → j < l.k → 0 < j → names_differ l.nodes (branches_of l.branches) l.froms l.tos j ≡ false
+invariant-loop-k l = (j : ℕ) → j < l.k → 0 < j → names_differ l.network.nodes l.network.branches l.froms l.tos j ≡ false

@@ -2,8 +2,8 @@
 use Rattle.std.specs.Prelude.{◌≡◌, refl, Option, Some, None, ℕ}
 use Rattle.std.specs.Option.{option_or}
 use mathlib.Core.Path.{◌∙◌}
-use Rattle.arrays.specs.Arrays.{branches_of}
 use Rattle.feeder.specs.Feeder.{or_else}
+use Rattle.compare.specs.Compare.{FromNodes, names_differ, node_name_differs, node_scan, row_scan, tap_name_differs, tap_scan}
 use Rattle.compare.specs.Tied.{names-tied}
 use Rattle.compare.proofs.first_name_differs.Goals as goal
 use Rattle.compare.proofs.first_name_differs.Goals.{After-or-2}
@@ -19,8 +19,10 @@ searched : (c : After-or-2) → c.or-2.result ≡ or_else c.first_node_name.resu
 searched c = c.or-2.ensures ∙ (λ i. option_or (c.or.ensures i) c.first_tap_name.result) ∙ three _ _ _
 
 pub returns : goal.returns
-returns c = λ f g x t h w r n b p q o y.
+returns c = λ f g x t h w r n b p q o u.
     let a = c.args in
+    let from : FromNodes g.branches g.rows = rw (r, b) at c.requires in
     searched (goal.at.returns c).After-or-2
     ∙ (λ i. or_else (c.first_node_name.ensures i) (or_else (c.first_branch_name.ensures i) (c.first_tap_name.ensures i)))
-    ∙ names-tied f g x t h w a.rows r (branches_of a.branches.now) b a.nodes.now a.names.now a.froms.now a.tos.now a.tap_names.now n p q o y c.requires.by_index
+    ∙ (λ i. or_else (node_scan (node_name_differs (n i) (p i)) (r i)) (or_else (row_scan (names_differ (n i) (b i) (q i) (o i)) (r i)) (tap_scan (tap_name_differs (n i) (u i)) (b i) (r i) 1 0)))
+    ∙ names-tied f g x t h w from

@@ -16,7 +16,7 @@ pub returns-then-names-k : goal.returns-then-names-k
 returns-then-names-k c =
     let l = c.loop-k in
     let a = c.args in
-    sym (first-node (node_name_differs a.nodes.now a.names.now) a.rows l.k (omega arith) l.invariant (ap not (ne_eqb _ _ c.if-names-k.true)))
+    sym (first-node (node_name_differs a.network.now.nodes a.names.now) a.network.now.rows l.k (omega arith) l.invariant (ap not (ne_eqb _ _ c.if-names-k.true)))
 
 pub loop-k-preserved : goal.loop-k-preserved
 loop-k-preserved c =
@@ -26,4 +26,4 @@ loop-k-preserved c =
 pub returns : goal.returns
 returns c =
     let a = c.args in
-    sym (none-nodes (node_name_differs a.nodes.now a.names.now) 1 a.rows (λ j q. c.loop-k.invariant j (omega arith)))
+    sym (none-nodes (node_name_differs a.network.now.nodes a.names.now) 1 a.network.now.rows (λ j q. c.loop-k.invariant j (omega arith)))

@@ -2,9 +2,8 @@
 use mathlib.Core.Bool.{false}
 use mathlib.Core.Path.{◌≡◌}
 use Prim.Native.Nat.{◌<◌, ℕ}
-use Rattle.arrays.specs.Arrays.{threes_of}
 use Rattle.compare.specs.Compare.{three_differs}
 use Rattle.compare.proofs.first_three_differs.Given as goal
 
 abbrev pub invariant-loop-k : goal.invariant-loop-k
-invariant-loop-k l = (j : ℕ) → j < l.k → 0 < j → three_differs (threes_of l.reported) (threes_of l.worked) j ≡ false
+invariant-loop-k l = (j : ℕ) → j < l.k → 0 < j → three_differs l.reported l.worked j ≡ false

@@ -2,9 +2,8 @@
 use mathlib.Core.Bool.{true}
 use mathlib.Core.Path.{◌≡◌}
 use Prim.Native.Nat.{◌<◌, ℕ}
-use Rattle.arrays.specs.Arrays.{pairs_of}
 use Rattle.compare.specs.Compare.{losses_same}
 use Rattle.compare.proofs.losses_same.Given as goal
 
 abbrev pub invariant-loop-k : goal.invariant-loop-k
-invariant-loop-k l = (j : ℕ) → j < l.k → 0 < j → losses_same (pairs_of l.losses) (pairs_of l.worked) j ≡ true
+invariant-loop-k l = (j : ℕ) → j < l.k → 0 < j → losses_same l.losses l.worked j ≡ true

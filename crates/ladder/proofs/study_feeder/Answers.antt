@@ -4,7 +4,6 @@ use Rattle.std.proofs.Common.{List, ◌∙◌, ◌≡◌, ap, refl, sym, ℕ, le
 use Rattle.std.proofs.lemmas.Result.{err_from_is_err_and}
 use Rattle.answers.specs.Answers.{Outcome}
 use Rattle.answers.specs.declared.Refusal.{Refusal}
-use Rattle.arrays.specs.Arrays.{network_of}
 use Rattle.ladder.proofs.StageLaws.{study-whole, whole-read, whole-refused}
 use Rattle.ladder.specs.Study.{StudyGood, StudyPoints, StudyTold, buffer_of, fitted, study_of}
 use Rattle.ladder.proofs.StudyLaws.{study-good, study-told}
@@ -13,7 +12,7 @@ use Rattle.ladder.specs.declared.Written.{Written}
 use Rattle.reading.specs.Reading.{into-bad}
 use Rattle.sweeps.specs.ReadKnown.{ReadKnown, read-good}
 use Rattle.ladder.proofs.study_feeder.Goals as goal
-use Rattle.ladder.proofs.study_feeder.Goals.{In_ok-settings}
+use Rattle.ladder.proofs.study_feeder.Goals.{In_ok-read_into}
 
 -- the answer and the buffer, and what follows from the answer on the sweeps, on number and value and on the line
 record Answered (s before after : List ℕ) (r : Outcome Written) : Type 0 where
@@ -32,24 +31,24 @@ answered s before after r h = record {
   first = study-points s (length before) h.0;
 }
 
-pub returns-in_err-settings : goal.returns-in_err-settings
-returns-in_err-settings c =
+pub returns-in_err-read_into : goal.returns-in_err-read_into
+returns-in_err-read_into c =
     let p = err_from_is_err_and c.from_residual.result c.from_residual.ensures.1 in
-    let x = c.in_err-settings.field-0.0 in
+    let x = c.in_err-read_into.field-0.0 in
     let w = answered c.args.feeder.now c.args.out.now c.args.out.now c.from_residual.result
-    (study-whole c.args.feeder.now c.args.out.now _ _ (whole-refused _ _ x _ _ (into-bad x c.read_into.ensures c.in_err-settings.was) (p.1 ∙ ap (λ (z : Refusal). Err z) p.2) refl)) in
+    (study-whole c.args.feeder.now c.args.out.now _ _ (whole-refused _ _ x _ _ (into-bad x c.read_into.ensures c.in_err-read_into.was) (p.1 ∙ ap (λ (z : Refusal). Err z) p.2) refl)) in
     record { answer = w.answer; buffer = w.buffer; sweeps = w.sweeps; told = w.told; first = w.first }
 
 -- the feeder that the arrays hold
-found : (c : In_ok-settings) → ReadKnown c.args.feeder.now (network_of c.in_ok-settings.settings c.read_into.new.nodes c.read_into.new.branches c.read_into.new.loads c.read_into.new.order c.read_into.new.rank)
-found c = read-good c.args.feeder.now c.in_ok-settings.settings c.read_into.ensures c.in_ok-settings.was
+found : (c : In_ok-read_into) → ReadKnown c.args.feeder.now c.read_into.new.network
+found c = read-good c.args.feeder.now c.in_ok-read_into.field-0 c.read_into.ensures c.in_ok-read_into.was
 
 pub study_network-requires : goal.study_network-requires
-study_network-requires c = (found (goal.at.study_network-requires c).In_ok-settings).known
+study_network-requires c = (found (goal.at.study_network-requires c).In_ok-read_into).known
 
 pub returns : goal.returns
 returns c =
-    let k = found (goal.at.returns c).In_ok-settings in
+    let k = found (goal.at.returns c).In_ok-read_into in
     let w = answered c.args.feeder.now c.args.out.now c.study_network.new.out c.study_network.result
-    (study-whole c.args.feeder.now c.args.out.now _ _ (whole-read _ _ k.feeder _ _ k.whole (c.study_network.ensures k.feeder k.held))) in
+    (study-whole c.args.feeder.now c.args.out.now _ _ (whole-read _ _ k.feeder _ _ k.whole (c.study_network.ensures.study k.feeder k.held))) in
     record { answer = w.answer; buffer = w.buffer; sweeps = w.sweeps; told = w.told; first = w.first }

@@ -1,7 +1,6 @@
 -- `limits::all_between` meets its contract: the columns are tested one after the other. Assumes nothing.
 use mathlib.Core.Path.{◌≡◌, ap, sym, ◌∙◌}
 use native.Mathlib.Omega.{arith}
-use lib.ListN.{drop}
 use mir.Facts.{to_z-of_z}
 use borrow.Author.Rules.{rules}
 use Rattle.feeder.specs.Feeder.{between}
@@ -15,16 +14,16 @@ abbrev head : After-between → At-loop-j
 head c = (goal.at.After-between c).At-loop-j
 
 tested : (c : After-between)
-    → let s = (head c).before.args in c.between.result ≡ between (read s.lo) (read s.hi) (nth (drop 5 s.n.now) (head c).loop-j.j)
+    → let s = (head c).before.args in c.between.result ≡ between (read s.lo) (read s.hi) (nth s.p.now (head c).loop-j.j)
 tested c =
     let s = (head c).before.args in
-    let z : read c.p_at.result ≡ c.p_at.result = search rules in
-    c.between.ensures ∙ ap (between (read s.lo) (read s.hi)) (z ∙ c.p_at.ensures)
+    let z : read (nth s.p.now (head c).loop-j.j) ≡ nth s.p.now (head c).loop-j.j = search rules in
+    c.between.ensures ∙ ap (between (read s.lo) (read s.hi)) z
 
 -- lo and hi are read as they are given
 given : (c : Start) → let s = c.args in
-    all_between (read s.lo) (read s.hi) (drop 5 s.n.now) s.first s.last ≡ all_between s.lo s.hi (drop 5 s.n.now) s.first s.last
-given c = λ i. all_between (to_z-of_z c.ranges.lo i) (to_z-of_z c.ranges.hi i) (drop 5 c.args.n.now) c.args.first c.args.last
+    all_between (read s.lo) (read s.hi) s.p.now s.first s.last ≡ all_between s.lo s.hi s.p.now s.first s.last
+given c = λ i. all_between (to_z-of_z c.ranges.lo i) (to_z-of_z c.ranges.hi i) c.args.p.now c.args.first c.args.last
 
 pub loop-j-init : goal.loop-j-init
 loop-j-init c = hold-none _ _ _

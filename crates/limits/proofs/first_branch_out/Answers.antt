@@ -1,38 +1,35 @@
 -- `limits::first_branch_out` meets its contract: the rows are tested one after the other. Assumes nothing.
 use mathlib.Core.Bool.{not}
-use mathlib.Core.List.{List}
 use mathlib.Core.Path.{◌≡◌, ◌∙◌, ap, sym}
-use Prim.Native.Nat.{◌-◌, ◌≤◌}
+use Prim.Native.Nat.{◌-◌}
 use native.Mathlib.Omega.{arith}
-use lib.ListN.{get_or, length}
+use lib.ListN.{get_or}
 use borrow.Author.Tests.{le-ltb, lt-ltb}
-use Rattle.arrays.specs.Arrays.{branch_rows}
-use Rattle.feeder.specs.Network.{no_branch_row}
+use Rattle.feeder.specs.Feeder.{branch_in}
+use Rattle.feeder.specs.Layout.{Rows}
+use Rattle.feeder.specs.Network.{kept, no_branch_row}
 use Rattle.feeder.specs.declared.BranchRow.{BranchRow}
-use Rattle.limits.specs.FirstRow.{branch-in-kept, branch_out, found_none, found-row, pass-none, pass-row}
+use Rattle.limits.specs.FirstRow.{branch_out, found_none, found-row, kept-row, pass-row}
 use Rattle.limits.proofs.first_branch_out.Goals as goal
 use Rattle.limits.proofs.first_branch_out.Goals.{After-branch_in, At-loop-k}
 
 abbrev head : After-branch_in → At-loop-k
 head c = (goal.at.After-branch_in c).At-loop-k
 
-fault : (c : After-branch_in) (bs : List BranchRow) → (head c).before.args.branches.now ≡ branch_rows bs → (head c).loop-k.k ≤ length bs
-    → branch_out (head c).loop-k.k (get_or bs ((head c).loop-k.k - 1) no_branch_row) ≡ not c.branch_in.result
-fault c bs e q =
-    let h = (head c).loop-k in
-    simp (le-ltb 200 h.k (omega arith)) (ap not (branch-in-kept h.invariant.from (λ b. 0) bs e (omega arith) q ∙ sym c.branch_in.ensures))
-
-pub loop-k-init : goal.loop-k-init
-loop-k-init c = pass-none _ _ _ _
+-- the test of row k, of the file's row
+fault : (c : After-branch_in) (r : Rows) → (head c).before.args.tables.now.branches ≡ kept no_branch_row 200 r.branches → let k = (head c).loop-k.k in branch_out k (get_or r.branches (k - 1) no_branch_row) ≡ not c.branch_in.result
+fault c r e =
+    let k = (head c).loop-k.k in
+    simp (le-ltb 200 k (omega arith)) (ap not (sym (c.branch_in.ensures ∙ ap (λ (b : BranchRow). branch_in b.kind b.p) (kept-row no_branch_row _ 200 r.branches _ k e (omega arith) (omega arith)))))
 
 pub returns-then-k-gt200 : goal.returns-then-k-gt200
-returns-then-k-gt200 c = let h = c.loop-k in found-row h.invariant no_branch_row (omega arith) (λ bs e q. simp (lt-ltb 200 h.k (omega arith)))
+returns-then-k-gt200 c = λ r e n. found-row (c.loop-k.invariant r e n) no_branch_row (omega arith) (simp (lt-ltb 200 c.loop-k.k (omega arith)))
 
 pub returns-then-not-branch_in : goal.returns-then-not-branch_in
-returns-then-not-branch_in c = found-row (head (goal.at.returns-then-not-branch_in c).After-branch_in).loop-k.invariant no_branch_row (omega arith) (λ bs e q. fault (goal.at.returns-then-not-branch_in c).After-branch_in bs e q ∙ ap not c.if-not-branch_in.true)
+returns-then-not-branch_in c = λ r e n. found-row (c.loop-k.invariant r e n) no_branch_row (omega arith) (fault (goal.at.returns-then-not-branch_in c).After-branch_in r e ∙ ap not c.if-not-branch_in.true)
 
 pub loop-k-preserved : goal.loop-k-preserved
-loop-k-preserved c = pass-row (head (goal.at.loop-k-preserved c).After-branch_in).loop-k.invariant no_branch_row (omega arith) (λ bs e q. fault (goal.at.loop-k-preserved c).After-branch_in bs e q ∙ ap not c.if-not-branch_in.false)
+loop-k-preserved c = λ r e n. pass-row (c.loop-k.invariant r e n) no_branch_row (omega arith) (fault (goal.at.loop-k-preserved c).After-branch_in r e ∙ ap not c.if-not-branch_in.false)
 
 pub returns : goal.returns
-returns c = found_none c.loop-k.invariant (omega arith)
+returns c = λ r e n. found_none (c.loop-k.invariant r e n) (omega arith)

@@ -1,11 +1,10 @@
 -- `limits::first_not_zero` meets its contract: the rows are tested one after the other. Assumes nothing.
-use mathlib.Core.List.{List}
 use mathlib.Core.Path.{◌≡◌}
-use Prim.Native.Nat.{ℕ}
-use Rattle.arrays.specs.Arrays.{numbered_branches}
-use Rattle.feeder.specs.declared.BranchRow.{BranchRow}
+use lib.ListN.{length}
+use Rattle.feeder.specs.Layout.{Rows}
+use Rattle.feeder.specs.Network.{kept, no_branch_row}
 use Rattle.limits.specs.FirstRow.{Passed, not_zero_row}
 use Rattle.limits.proofs.first_not_zero.Given as goal
 
 abbrev pub invariant-loop-k : goal.invariant-loop-k
-invariant-loop-k l = (nodes : List ℕ) → Passed not_zero_row 4 (λ (bs : List BranchRow). l.branches ≡ numbered_branches nodes bs) l.count l.k
+invariant-loop-k l = (r : Rows) → l.tables.branches ≡ kept no_branch_row 200 r.branches → l.tables.rows ≡ length r.branches → Passed not_zero_row 4 r.branches l.k

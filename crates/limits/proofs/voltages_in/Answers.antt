@@ -15,13 +15,13 @@ use Rattle.limits.proofs.voltages_in.Goals.{After-inside, At-loop-j, Start}
 abbrev head : After-inside → At-loop-j
 head c = (goal.at.After-inside c).At-loop-j
 
-tested : (c : After-inside) → c.inside.result ≡ voltage_at (head c).before.args.given (head c).loop-j.j
+tested : (c : After-inside) → c.inside.result ≡ voltage_at (head c).before.args.given.now (head c).loop-j.j
 tested c =
-    let z : read (nth c.args.given c.loop-j.j) ≡ nth c.args.given c.loop-j.j = search rules in
+    let z : read (nth c.args.given.now c.loop-j.j) ≡ nth c.args.given.now c.loop-j.j = search rules in
     c.inside.ensures ∙ ap (inside 2000000) z
 
-six : (c : Start) → all (inside 2000000) (take 6 c.args.given) ≡ all (voltage_at c.args.given) (count 1 6)
-six c = let e : length c.args.given ≡ 8 = search rules in all_take (inside 2000000) (pos 0) c.args.given 6 (omega arith)
+six : (c : Start) → all (inside 2000000) (take 6 c.args.given.now) ≡ all (voltage_at c.args.given.now) (count 1 6)
+six c = let e : length c.args.given.now ≡ 8 = search rules in all_take (inside 2000000) (pos 0) c.args.given.now 6 (omega arith)
 
 pub loop-j-init : goal.loop-j-init
 loop-j-init c = hold-none _ 1 6

@@ -1,29 +1,28 @@
--- `number_loads` meets its contract: the rows that passed have their numbers, the others are as they were. Assumes nothing.
-use mathlib.Core.List.{List}
-use mathlib.Core.Path.{◌∙◌, ◌≡◌, ap}
-use Prim.Native.Nat.{ℕ}
+-- `number_loads` meets its contract: the loads of the rows that passed stand in the array. Assumes nothing.
+use mathlib.Core.List.{[]}
+use mathlib.Core.Path.{◌≡◌, ap}
+use Prim.Native.Nat.{◌+◌}
 use native.Mathlib.Omega.{arith}
 use borrow.Author.Rules.{rules}
-use lib.IntN.{pos}
 use lib.ListN.{get_or, take}
-use Rattle.feeder.specs.Feeder.{place_of}
+use Rattle.feeder.specs.Feeder.{load_of}
+use Rattle.feeder.specs.Network.{no_load, no_load_row}
+use Rattle.feeder.specs.NetworkLaws.{blank-kept}
 use Rattle.integers.specs.Machine.{read}
-use Rattle.names.specs.Numbering.{load-next, loads-all}
+use Rattle.names.specs.Numbering.{filled_all, filled_next, load-row}
 use Rattle.names.proofs.number_loads.Goals as goal
 
 pub loop-i-init : goal.loop-i-init
-loop-i-init c = λ ls e n b. b
+loop-i-init c = λ r e n b. rw (b, blank-kept no_load 300)
 
 pub loop-i-preserved : goal.loop-i-preserved
-loop-i-preserved c =
-    let a = c.args in
-    let l = c.loop-i in
-    let z : read c.number_of.result ≡ c.number_of.result = search rules in
-    λ ls e n b. rw (l.invariant ls e n b, z)
-    (load-next (take a.n a.nodes.now) ls l.i c.number_of.result (omega arith) (omega arith)
-    (c.number_of.ensures.value ∙ ap (λ (names : List ℕ). pos (place_of (get_or names l.i 0) (take a.n a.nodes.now))) e))
+loop-i-preserved c = λ r e n b.
+    let i = c.loop-i.i in
+    let made = load_of (take (c.args.tables.now.rows + 1) c.args.nodes.now) in
+    let z : read (get_or c.args.tables.now.loads i no_load_row).vn ≡ (get_or c.args.tables.now.loads i no_load_row).vn = search rules in
+    rw (c.loop-i.invariant r e n b)
+    (filled_next made no_load 300 [] r.loads no_load_row i i _ _ (omega arith) (omega arith) (omega (arith, n)) (omega arith)
+    (rw (c.find-node.ensures, z) (ap made (load-row r.loads e i _ (omega arith)))))
 
 pub returns : goal.returns
-returns c = λ ls e n b.
-    let a = c.args in
-    c.loop-i.invariant ls e n b ∙ loads-all (take a.n a.nodes.now) ls c.loop-i.i (omega arith)
+returns c = λ r e n b. rw (c.loop-i.invariant r e n b, filled_all (load_of (take (c.args.tables.now.rows + 1) c.args.nodes.now)) [] r.loads c.loop-i.i (omega (arith, n)))

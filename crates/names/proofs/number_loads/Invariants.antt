@@ -1,12 +1,14 @@
--- `number_loads` meets its contract: the rows that passed have their numbers, the others are as they were. Assumes nothing.
-use mathlib.Core.List.{List}
+-- `number_loads` meets its contract: the loads of the rows that passed stand in the array. Assumes nothing.
+use mathlib.Core.List.{[]}
 use mathlib.Core.Path.{◌≡◌}
-use lib.ListN.{length, take}
-use Rattle.arrays.specs.Arrays.{load_names, load_rows}
-use Rattle.feeder.specs.declared.LoadRow.{LoadRow}
-use Rattle.names.specs.Numbering.{loads_to}
+use Prim.Native.Nat.{◌+◌}
+use lib.ListN.{length, replicate, take}
+use Rattle.feeder.specs.Feeder.{load_of}
+use Rattle.feeder.specs.Layout.{Rows}
+use Rattle.feeder.specs.Network.{kept, no_load, no_load_row}
+use Rattle.names.specs.Numbering.{filled}
 use Rattle.names.proofs.number_loads.Given as goal
 
 abbrev pub invariant-loop-i : goal.invariant-loop-i
 invariant-loop-i l =
-    (ls : List LoadRow) → l.names ≡ load_names ls → l.total ≡ length ls → l.initial.loads ≡ load_rows ls → l.loads ≡ loads_to (take l.n l.nodes) ls l.i
+    (r : Rows) → l.tables.loads ≡ kept no_load_row 300 r.loads → l.tables.count ≡ length r.loads → l.initial.loads ≡ replicate 300 no_load → l.loads ≡ kept no_load 300 (filled (load_of (take (l.tables.rows + 1) l.nodes)) [] r.loads l.i)

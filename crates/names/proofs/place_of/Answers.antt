@@ -16,4 +16,4 @@ loop-i-preserved c =
 pub returns : goal.returns
 returns c =
     let a = c.args in
-    omega (arith, place_end a.name a.nodes.now a.n c.loop-i.i c.requires (omega arith))
+    omega (arith, place_end a.name a.nodes.now a.n c.loop-i.i (omega arith))

@@ -18,28 +18,27 @@ use Rattle.report.specs.Report.{Reported, report_of, totals_row}
 use Rattle.answers.specs.AnswerLaws.{not-refused}
 use Rattle.answers.specs.declared.Refusal.TheVariants.{ReportLayout}
 use Rattle.report_tables.specs.TablesRead.{TableHeld, TableIs, TableRead, TotalsAre, TotalsHeld, table_read}
-use Rattle.tap_table.specs.TapTable.{taps_of}
 use Rattle.report_reader.specs.Read.{FeederShown, LastHeld, last_taps}
 use Rattle.report_reader.specs.ReportLaws.{accepts, branch_table, branches-empty, by_tests, no-branches, no-nodes, no-taps, no-totals, node_table, nodes-empty, not-read, tap-names-empty, taps-empty, taps-read}
 use Rattle.report_reader.proofs.read_report.Goals as goal
 use Rattle.report_reader.proofs.read_report.Goals.{After-accepted, After-read_table, After-read_table-2, After-read_totals, In-Some, In-Some-read_table, In-Some-read_totals, In_default, In_default-read_table, In_default-read_totals, Else-not-read_taps, Then-not-read_taps}
 
 -- the node table
-nodes : (c : After-read_table) (n : ℕ) → n ≡ c.args.rows + 1 → let l = c.read_table.new in TableIs false n c.args.report.now (node_table n c.args.report.now) c.read_table.result l.first l.second l.threes l.pairs
+nodes : (c : After-read_table) (n : ℕ) → n ≡ c.args.network.now.rows + 1 → let l = c.read_table.new in TableIs false n c.args.report.now (node_table n c.args.report.now) c.read_table.result l.first l.second l.threes l.pairs
 unfolding bytes
 nodes c n d = c.read_table.ensures "node,va_re,va_im,vb_re,vb_im,vc_re,vc_im\n" n refl d
 
 abbrev nodeRead : In-Some → TableRead
 nodeRead c = let l = c.read_table.new in table_read c.in-Some.node_table l.first l.second l.threes l.pairs
 
-nodes-held : (c : In-Some) (n : ℕ) → n ≡ c.args.rows + 1 → TableHeld false n c.args.report.now (node_table n c.args.report.now) (nodeRead c)
+nodes-held : (c : In-Some) (n : ℕ) → n ≡ c.args.network.now.rows + 1 → TableHeld false n c.args.report.now (node_table n c.args.report.now) (nodeRead c)
 nodes-held c n d = MatchOption-at_some _ _ _ c.in-Some.is (nodes (goal.at.In-Some c).After-read_table n d)
 
 nodes-within : (c : In-Some) → c.in-Some.node_table.next ≤ length c.args.report.now
-nodes-within c = (nodes-held c (c.args.rows + 1) refl).within
+nodes-within c = (nodes-held c (c.args.network.now.rows + 1) refl).within
 
 -- the branch table, in the rest of the report
-branches : (c : After-read_table-2) (n : ℕ) → n ≡ c.args.rows → let s = drop c.in-Some.node_table.next c.args.report.now in let l = c.read_table-2.new in
+branches : (c : After-read_table-2) (n : ℕ) → n ≡ c.args.network.now.rows → let s = drop c.in-Some.node_table.next c.args.report.now in let l = c.read_table-2.new in
     TableIs true n s (branch_table n s) c.read_table-2.result l.first l.second l.threes l.pairs
 unfolding bytes
 branches c n d =
@@ -49,13 +48,13 @@ branches c n d =
 abbrev branchRead : In-Some-read_table → TableRead
 branchRead c = let l = c.read_table-2.new in table_read c.in-Some-read_table.branch_table l.first l.second l.threes l.pairs
 
-branches-held : (c : In-Some-read_table) (n : ℕ) → n ≡ c.args.rows → let s = drop c.in-Some.node_table.next c.args.report.now in TableHeld true n s (branch_table n s) (branchRead c)
+branches-held : (c : In-Some-read_table) (n : ℕ) → n ≡ c.args.network.now.rows → let s = drop c.in-Some.node_table.next c.args.report.now in TableHeld true n s (branch_table n s) (branchRead c)
 branches-held c n d = MatchOption-at_some _ _ _ c.in-Some-read_table.is (branches (goal.at.In-Some-read_table c).After-read_table-2 n d)
 
 branches-within : (c : In-Some-read_table) → c.in-Some.node_table.next + c.in-Some-read_table.branch_table.next ≤ length c.args.report.now
 branches-within c =
     let h = nodes-within (goal.at.In-Some-read_table c).In-Some in
-    let k = (branches-held c c.args.rows refl).within in
+    let k = (branches-held c c.args.network.now.rows refl).within in
     omega (arith, length-drop c.in-Some.node_table.next c.args.report.now)
 
 -- the rest behind these two, in which the row of the totals and the last table stand
@@ -76,14 +75,14 @@ totals-held : (c : In-Some-read_totals) → let s = rest (goal.at.In-Some-read_t
 totals-held c = MatchOption-at_some _ _ _ c.in-Some-read_totals.is (totals (goal.at.In-Some-read_totals c).After-read_totals)
 
 -- the last table
-last-held : (c : Else-not-read_taps) (f : Feeder) → let a = c.args in FeederShown f a.nodes.now a.branches.now a.rows a.limit →
-    let l = c.read_taps.new in LastHeld f (rest (goal.at.Else-not-read_taps c).After-read_totals) c.in-Some-read_totals.last.1 l.names (taps_of l.taps)
+last-held : (c : Else-not-read_taps) (f : Feeder) → let a = c.args in FeederShown f a.network.now a.network.now.limit →
+    let l = c.read_taps.new in LastHeld f (rest (goal.at.Else-not-read_taps c).After-read_totals) c.in-Some-read_totals.last.1 l.names l.taps
 last-held c f h =
     let l = c.read_taps.new in
-    subst (λ (s : List ℕ). LastHeld f s c.in-Some-read_totals.last.1 l.names (taps_of l.taps)) (rest-is (goal.at.Else-not-read_taps c).After-read_totals) ((c.read_taps.ensures f _ h).held c.if-not-read_taps.false)
+    subst (λ (s : List ℕ). LastHeld f s c.in-Some-read_totals.last.1 l.names l.taps) (rest-is (goal.at.Else-not-read_taps c).After-read_totals) ((c.read_taps.ensures f _ h).held c.if-not-read_taps.false)
 
 -- the tests
-agreed : (c : After-accepted) (limit : ℕ) → c.args.limit ≡ limit → accepts limit (nodeRead (goal.at.After-accepted c).In-Some) (branchRead (goal.at.After-accepted c).In-Some-read_table) c.in-Some-read_totals.last.0 ≡ c.accepted.result
+agreed : (c : After-accepted) (limit : ℕ) → c.args.network.now.limit ≡ limit → accepts limit (nodeRead (goal.at.After-accepted c).In-Some) (branchRead (goal.at.After-accepted c).In-Some-read_table) c.in-Some-read_totals.last.0 ≡ c.accepted.result
 agreed c limit d = sym (c.accepted.ensures ∙ (λ i. c.in-Some.node_table.inside && (c.in-Some-read_table.branch_table.inside && between (pos 1) (pos (d i)) (nth c.in-Some-read_totals.last.0 1))))
 
 pub read_table-requires : goal.read_table-requires
@@ -93,7 +92,7 @@ read_table-requires c = record { header_nonzero = search rules; count_bound = se
 unread : {X : Type 0} (f : Feeder) (s : List ℕ) → report_of f s ≡ Err ReportLayout → (x : Reported) → report_of f s ≡ Ok x → X
 unread f s e x g = not-refused ReportLayout x (sym e ∙ g)
 
-no-nodes-in : (c : In_default) (f : Feeder) → c.args.rows ≡ row_count f → report_of f c.args.report.now ≡ Err ReportLayout
+no-nodes-in : (c : In_default) (f : Feeder) → c.args.network.now.rows ≡ row_count f → report_of f c.args.report.now ≡ Err ReportLayout
 no-nodes-in c f e = no-nodes f _ (MatchOption-at_none _ _ c.in_default.is (nodes (goal.at.In_default c).After-read_table (suc (row_count f)) (omega (arith, e))))
 
 pub returns-in_default : goal.returns-in_default
@@ -106,13 +105,13 @@ pub slice_bounds-read_table-start : goal.slice_bounds-read_table-start
 slice_bounds-read_table-start c = nodes-within (goal.at.slice_bounds-read_table-start c).In-Some
 
 pub read_table-requires-2 : goal.read_table-requires-2
-read_table-requires-2 c = record { header_nonzero = search rules; count_bound = search rules; empty = branches-empty c.args.read.now c.requires.unread _ _ ((nodes-held (goal.at.read_table-requires-2 c).In-Some (c.args.rows + 1) refl).blank refl) }
+read_table-requires-2 c = record { header_nonzero = search rules; count_bound = search rules; empty = branches-empty c.args.read.now c.requires.unread _ _ ((nodes-held (goal.at.read_table-requires-2 c).In-Some (c.args.network.now.rows + 1) refl).blank refl) }
 
 -- the first two tables of a feeder with so many rows
-nodes-of : (c : In-Some) (f : Feeder) → c.args.rows ≡ row_count f → TableHeld false (suc (row_count f)) c.args.report.now (node_table (suc (row_count f)) c.args.report.now) (nodeRead c)
+nodes-of : (c : In-Some) (f : Feeder) → c.args.network.now.rows ≡ row_count f → TableHeld false (suc (row_count f)) c.args.report.now (node_table (suc (row_count f)) c.args.report.now) (nodeRead c)
 nodes-of c f e = nodes-held c (suc (row_count f)) (omega (arith, e))
 
-no-branches-in : (c : In_default-read_table) (f : Feeder) → c.args.rows ≡ row_count f → report_of f c.args.report.now ≡ Err ReportLayout
+no-branches-in : (c : In_default-read_table) (f : Feeder) → c.args.network.now.rows ≡ row_count f → report_of f c.args.report.now ≡ Err ReportLayout
 no-branches-in c f e = no-branches f _ _ _ (nodes-of (goal.at.In_default-read_table c).In-Some f e).whole (MatchOption-at_none _ _ c.in_default-read_table.is (branches (goal.at.In_default-read_table c).After-read_table-2 (row_count f) (sym e)))
 
 pub returns-in_default-read_table : goal.returns-in_default-read_table
@@ -127,16 +126,16 @@ slice_bounds-rest-count c = branches-within (goal.at.slice_bounds-rest-count c).
 pub slice_bounds-rest-start : goal.slice_bounds-rest-start
 slice_bounds-rest-start c = branches-within (goal.at.slice_bounds-rest-start c).In-Some-read_table
 
-no-totals-in : (c : In_default-read_totals) (f : Feeder) → c.args.rows ≡ row_count f → report_of f c.args.report.now ≡ Err ReportLayout
+no-totals-in : (c : In_default-read_totals) (f : Feeder) → c.args.network.now.rows ≡ row_count f → report_of f c.args.report.now ≡ Err ReportLayout
 no-totals-in c f e = no-totals f _ _ _ (nodes-of (goal.at.In_default-read_totals c).In-Some f e).whole _ _ (branches-held (goal.at.In_default-read_totals c).In-Some-read_table (row_count f) (sym e)).whole (MatchOption-at_none _ _ c.in_default-read_totals.is (totals (goal.at.In_default-read_totals c).After-read_totals))
 
 pub returns-in_default-read_totals : goal.returns-in_default-read_totals
 returns-in_default-read_totals c = record { held = (λ f h. not-read _ _ _ refl (no-totals-in (goal.at.returns-in_default-read_totals c).In_default-read_totals f h.rows)); taps = (λ f x h. unread f _ (no-totals-in (goal.at.returns-in_default-read_totals c).In_default-read_totals f h.rows) x) }
 
 pub read_taps-requires : goal.read_taps-requires
-read_taps-requires c = record { rows_bound = c.requires.rows_bound; names_value = tap-names-empty c.args.read.now c.requires.unread; taps_value = taps-empty c.args.read.now c.requires.unread }
+read_taps-requires c = record { names_value = tap-names-empty c.args.read.now c.requires.unread; taps_value = taps-empty c.args.read.now c.requires.unread }
 
-no-taps-in : (c : Then-not-read_taps) (f : Feeder) → FeederShown f c.args.nodes.now c.args.branches.now c.args.rows c.args.limit → report_of f c.args.report.now ≡ Err ReportLayout
+no-taps-in : (c : Then-not-read_taps) (f : Feeder) → FeederShown f c.args.network.now c.args.network.now.limit → report_of f c.args.report.now ≡ Err ReportLayout
 no-taps-in c f h =
     no-taps f _ _ _ (nodes-of (goal.at.Then-not-read_taps c).In-Some f h.rows).whole _ _ (branches-held (goal.at.Then-not-read_taps c).In-Some-read_table (row_count f) (sym h.rows)).whole _ _ (totals-held (goal.at.Then-not-read_taps c).In-Some-read_totals).whole
     (subst (λ (l : List ℕ). last_taps f l c.in-Some-read_totals.last.1 ≡ Err ReportLayout) (rest-is (goal.at.Then-not-read_taps c).After-read_totals) ((c.read_taps.ensures f _ h).refusal c.if-not-read_taps.true))

@@ -1,10 +1,9 @@
 -- `compare::tap_rows::first_tap_differs` meets its contract: at each turn the search from here on is the whole search. Assumes nothing.
 use mathlib.Core.Path.{◌≡◌}
 use Prim.Native.Nat.{◌<◌}
-use Rattle.arrays.specs.Arrays.{branches_of, threes_of}
 use Rattle.compare.specs.Compare.{tap_moves, tap_scan}
 use Rattle.compare.proofs.tap_rows.first_tap_differs.Given as goal
 
 abbrev pub invariant-loop-k : goal.invariant-loop-k
 invariant-loop-k l =
-    record { before : l.j < l.k; rest : tap_scan (tap_moves (branches_of l.branches) (branches_of l.own) (threes_of l.voltages) (threes_of l.currents)) (branches_of l.branches) l.rows 1 0 ≡ tap_scan (tap_moves (branches_of l.branches) (branches_of l.own) (threes_of l.voltages) (threes_of l.currents)) (branches_of l.branches) l.rows l.k l.j }
+    record { before : l.j < l.k; rest : tap_scan (tap_moves l.network.branches l.own.branches l.read.voltages l.read.currents) l.network.branches l.network.rows 1 0 ≡ tap_scan (tap_moves l.network.branches l.own.branches l.read.voltages l.read.currents) l.network.branches l.network.rows l.k l.j }

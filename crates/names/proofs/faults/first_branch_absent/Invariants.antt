@@ -1,8 +1,6 @@
 -- `faults::first_branch_absent` meets its contract: what the definition gives at the first row it gives at row k. Assumes nothing.
 use mathlib.Core.Path.{◌≡◌}
 use Prim.Native.Nat.{◌+◌}
-use lib.ListN.{length}
-use Rattle.arrays.specs.Arrays.{branches_of}
 use Rattle.feeder.specs.Feeder.{first_row}
 use Rattle.names.specs.Numbered.{branch_absent}
 use Rattle.names.specs.Rest.{rest}
@@ -10,5 +8,4 @@ use Rattle.names.proofs.faults.first_branch_absent.Given as goal
 
 abbrev pub invariant-loop-k : goal.invariant-loop-k
 invariant-loop-k l =
-    (length (branches_of l.branches) ≡ 201 →
-    first_row (branch_absent (branches_of l.branches)) 4 1 (rest 1 (l.count + 1) (branches_of l.branches)) ≡ first_row (branch_absent (branches_of l.branches)) 4 l.k (rest l.k (l.count + 1) (branches_of l.branches)))
+    first_row (branch_absent l.network.branches) 4 1 (rest 1 (l.network.rows + 1) l.network.branches) ≡ first_row (branch_absent l.network.branches) 4 l.k (rest l.k (l.network.rows + 1) l.network.branches)

@@ -4,9 +4,7 @@ use mathlib.Core.Path.{◌∙◌, ap, sym}
 use Prim.Native.Nat.{◌+◌}
 use native.Mathlib.Omega.{arith}
 use lib.ListN.{take}
-use Rattle.arrays.specs.Arrays.{branches_of, loads_of}
 use Rattle.feeder.specs.Feeder.{first_row, or_else}
-use Rattle.feeder.specs.NetworkLaws.{length-kept}
 use Rattle.names.specs.Numbered.{load_absent}
 use Rattle.names.specs.NumberedLaws.{none-past, phase-absent}
 use Rattle.names.proofs.faults.first_phase_absent.Goals as goal
@@ -15,17 +13,17 @@ pub returns-in-Some : goal.returns-in-Some
 unfolding or_else
 returns-in-Some c = λ r e n f m.
     let a = c.args in
-    let bs = branches_of a.branches.now in
-    let ls = loads_of a.loads.now in
-    sym (ap (λ (x : Option ℕ). or_else x (first_row (load_absent bs) (a.count + 6) 1 (take a.total ls))) (sym (c.first_branch_absent.ensures (rw (e, length-kept))) ∙ c.in-Some.is))
-    ∙ phase-absent r a.count n (omega arith) a.total m (omega arith) bs ls e f
+    let bs = a.network.now.branches in
+    let ls = a.network.now.loads in
+    sym (ap (λ (x : Option ℕ). or_else x (first_row (load_absent bs) (a.network.now.rows + 6) 1 (take a.network.now.count ls))) (sym c.first_branch_absent.ensures ∙ c.in-Some.is))
+    ∙ phase-absent r a.network.now.rows n (omega arith) a.network.now.count m (omega arith) bs ls e f
 
 pub returns-in-None : goal.returns-in-None
 unfolding or_else
 returns-in-None c = λ r e n f m.
     let a = c.args in
-    let bs = branches_of a.branches.now in
-    let ls = loads_of a.loads.now in
-    c.first_load_absent.ensures (rw (f, length-kept)) (λ k h. rw e (none-past r a.count n (omega arith) k h))
-    ∙ sym (ap (λ (x : Option ℕ). or_else x (first_row (load_absent bs) (a.count + 6) 1 (take a.total ls))) (sym (c.first_branch_absent.ensures (rw (e, length-kept))) ∙ c.in-None.is))
-    ∙ phase-absent r a.count n (omega arith) a.total m (omega arith) bs ls e f
+    let bs = a.network.now.branches in
+    let ls = a.network.now.loads in
+    c.first_load_absent.ensures (λ k h. rw e (none-past r a.network.now.rows n (omega arith) k h))
+    ∙ sym (ap (λ (x : Option ℕ). or_else x (first_row (load_absent bs) (a.network.now.rows + 6) 1 (take a.network.now.count ls))) (sym c.first_branch_absent.ensures ∙ c.in-None.is))
+    ∙ phase-absent r a.network.now.rows n (omega arith) a.network.now.count m (omega arith) bs ls e f

@@ -12,18 +12,18 @@ use Rattle.names.specs.Rest.{first-end, first-here, first_next}
 use Rattle.names.proofs.faults.first_second_to.Goals as goal
 use Rattle.names.proofs.faults.first_second_to.Goals.{Start}
 
-long : (c : Start) (r : Rows) → c.args.nodes.now ≡ nodes_in r → c.args.count + 1 ≤ length c.args.nodes.now
+long : (c : Start) (r : Rows) → c.args.network.now.nodes ≡ nodes_in r → c.args.network.now.rows + 1 ≤ length c.args.network.now.nodes
 long c r e = rw (e, length-kept) (omega arith)
 
 pub loop-k-init : goal.loop-k-init
-loop-k-init c = λ r e n. second-to r c.args.count n (omega arith) c.args.nodes.now e
+loop-k-init c = λ r e n. second-to r c.args.network.now.rows n (omega arith) c.args.network.now.nodes e
 
 pub returns-then-place-k : goal.returns-then-place-k
 unfolding to_second
 returns-then-place-k c = λ r e n.
     let a = c.args in
     let l = c.loop-k in
-    sym (first-here (to_second (take (a.count + 1) a.nodes.now)) 4 l.k 0 a.nodes.now (a.count + 1) l.k (long (goal.at.returns-then-place-k c).Start r e) (omega arith) (rw (sym c.find-place.ensures) (lt-ltb c.find-place.result l.k (omega arith))))
+    sym (first-here (to_second (take (a.network.now.rows + 1) a.network.now.nodes)) 4 l.k 0 a.network.now.nodes (a.network.now.rows + 1) l.k (long (goal.at.returns-then-place-k c).Start r e) (omega arith) (rw (sym c.find-place.ensures) (lt-ltb c.find-place.result l.k (omega arith))))
     ∙ l.invariant r e n
 
 pub loop-k-preserved : goal.loop-k-preserved
@@ -31,12 +31,12 @@ unfolding to_second
 loop-k-preserved c =
     let a = c.args in
     let l = c.loop-k in
-    λ r e n. sym (first_next (to_second (take (a.count + 1) a.nodes.now)) 4 l.k 0 a.nodes.now (a.count + 1) l.k (long (goal.at.loop-k-preserved c).Start r e) (omega arith) (rw (sym c.find-place.ensures) (le-ltb c.find-place.result l.k (omega arith))))
+    λ r e n. sym (first_next (to_second (take (a.network.now.rows + 1) a.network.now.nodes)) 4 l.k 0 a.network.now.nodes (a.network.now.rows + 1) l.k (long (goal.at.loop-k-preserved c).Start r e) (omega arith) (rw (sym c.find-place.ensures) (le-ltb c.find-place.result l.k (omega arith))))
     ∙ l.invariant r e n
 
 pub returns : goal.returns
 returns c = λ r e n.
     let a = c.args in
     let l = c.loop-k in
-    sym (first-end (to_second (take (a.count + 1) a.nodes.now)) 4 l.k 0 a.nodes.now (a.count + 1) l.k (long (goal.at.returns c).Start r e) (omega arith))
+    sym (first-end (to_second (take (a.network.now.rows + 1) a.network.now.nodes)) 4 l.k a.network.now.nodes (a.network.now.rows + 1) l.k (omega arith))
     ∙ l.invariant r e n

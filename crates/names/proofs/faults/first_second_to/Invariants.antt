@@ -10,4 +10,4 @@ use Rattle.names.proofs.faults.first_second_to.Given as goal
 
 abbrev pub invariant-loop-k : goal.invariant-loop-k
 invariant-loop-k l =
-    ((r : Rows) → l.nodes ≡ nodes_in r → l.count ≡ length r.branches → first_row (to_second (take (l.count + 1) l.nodes)) 4 l.k (rest l.k (l.count + 1) l.nodes) ≡ second_to r)
+    ((r : Rows) → l.network.nodes ≡ nodes_in r → l.network.rows ≡ length r.branches → first_row (to_second (take (l.network.rows + 1) l.network.nodes)) 4 l.k (rest l.k (l.network.rows + 1) l.network.nodes) ≡ second_to r)

@@ -2,7 +2,6 @@
 use mathlib.Core.Path.{◌≡◌}
 use Prim.Native.Nat.{◌+◌}
 use lib.ListN.{length}
-use Rattle.arrays.specs.Arrays.{branches_of}
 use Rattle.feeder.specs.Feeder.{first_row, unknown_from}
 use Rattle.feeder.specs.Layout.{Rows}
 use Rattle.names.specs.Numbered.{branches_in, from_unknown}
@@ -11,4 +10,4 @@ use Rattle.names.proofs.faults.first_unknown_from.Given as goal
 
 abbrev pub invariant-loop-k : goal.invariant-loop-k
 invariant-loop-k l =
-    ((r : Rows) → branches_of l.branches ≡ branches_in r → l.count ≡ length r.branches → first_row (from_unknown l.count) 4 l.k (rest l.k (l.count + 1) (branches_of l.branches)) ≡ unknown_from r)
+    ((r : Rows) → l.network.branches ≡ branches_in r → l.network.rows ≡ length r.branches → first_row (from_unknown l.network.rows) 4 l.k (rest l.k (l.network.rows + 1) l.network.branches) ≡ unknown_from r)

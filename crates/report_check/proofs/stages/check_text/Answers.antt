@@ -4,12 +4,10 @@ use mathlib.Core.List.{List}
 use mathlib.Core.Path.{◌≡◌}
 use Prim.Native.Nat.{ℕ}
 use native.Mathlib.Omega.{arith}
-use lib.IntN.{ℤ}
 use Rattle.answers.specs.Answers.{Outcome}
-use Rattle.arrays.specs.Arrays.{network_of}
 use Rattle.feeder.specs.Feeder.{Feeder, row_count}
 use Rattle.feeder.specs.Network.{Held}
-use Rattle.feeder.specs.declared.Network.{Network}
+use Rattle.feeder.specs.Phased.{Taps}
 use Rattle.report.specs.Report.{Reported, report_of}
 use Rattle.report.proofs.ReportTaps.{reported-within}
 use Rattle.report_check.specs.CheckStages.{ReportFound, goes50, refused50, report-read, report-refused}
@@ -18,10 +16,6 @@ use Rattle.report_reader.specs.Read.{FeederShown, ReportIs, ReportRead, TapsHeld
 use Rattle.report_check.proofs.stages.check_text.Goals as goal
 use Rattle.report_check.proofs.stages.check_text.Goals.{After-read_report, Start}
 
--- the feeder
-abbrev network : Start → Network
-network s = let a = s.args in network_of a.settings a.nodes.now a.branches.now a.loads.now a.order.now a.rank.now
-
 abbrev start : After-read_report → Start
 start q = (goal.at.After-read_report q).Start
 
@@ -29,31 +23,32 @@ start q = (goal.at.After-read_report q).Start
 abbrev arrays : After-read_report → Bool → ReportRead
 arrays q ok = report_read ok q.read_report.new.read
 
-abbrev taps : After-read_report → List (List ℤ)
+abbrev taps : After-read_report → List Taps
 taps q = q.read_report.new.read.taps
 
 -- the feeder is lent to the reader
-shown : (q : After-read_report) (f : Feeder) → Held f (network (start q)) → let a = (start q).args in FeederShown f a.nodes.now a.branches.now a.settings.rows a.settings.limit
+shown : (q : After-read_report) (f : Feeder) → Held f (start q).args.network.now → let n = (start q).args.network.now in FeederShown f n n.limit
 shown q f h = record { nodes = h.nodes; branches = h.branches; rows = h.rows; few-rows = h.few-rows; limit = h.limit }
 
 -- they hold it, or it is refused
-answer : (q : After-read_report) (f : Feeder) → Held f (network (start q)) → ReportIs (row_count f) (report_of f (start q).args.report.now) (arrays q q.read_report.result)
+answer : (q : After-read_report) (f : Feeder) → Held f (start q).args.network.now → ReportIs (row_count f) (report_of f (start q).args.report.now) (arrays q q.read_report.result)
 answer q f h = q.read_report.ensures.held f (shown q f h)
 
 -- the report that is read
 as-true : {rows : ℕ} {o : Outcome Reported} (t : Bool → ReportRead) {ok : Bool} → ok ≡ true → ReportFound rows o (t ok) → ReportFound rows o (t true)
 as-true t e x = rw e at x
 
-there : (q : After-read_report) → q.read_report.result ≡ true → (f : Feeder) → Held f (network (start q)) → ReportFound (row_count f) (report_of f (start q).args.report.now) (arrays q true)
+there : (q : After-read_report) → q.read_report.result ≡ true → (f : Feeder) → Held f (start q).args.network.now → ReportFound (row_count f) (report_of f (start q).args.report.now) (arrays q true)
 there q e f h = as-true (arrays q) e (report-read (row_count f) (report_of f (start q).args.report.now) (arrays q q.read_report.result) (answer q f h) e)
 
-taps-there : (q : After-read_report) (e : q.read_report.result ≡ true) (f : Feeder) (h : Held f (network (start q))) → TapsHeld f (there q e f h).report (taps q)
+taps-there : (q : After-read_report) (e : q.read_report.result ≡ true) (f : Feeder) (h : Held f (start q).args.network.now) → TapsHeld f (there q e f h).report (taps q)
 taps-there q e f h = q.read_report.ensures.taps f (there q e f h).report (shown q f h) (there q e f h).came
 
-pub read_report-requires : goal.read_report-requires
-read_report-requires c =
-    let k = c.requires in
-    record { rows_bound = k.arranged.linked.few; limit_bound = omega (arith, k.held.limit, k.fit.few-sweeps); unread = unread c.empty-read.ensures }
+pub read_report-requires-clause-limit_bound : goal.read_report-requires-clause-limit_bound
+read_report-requires-clause-limit_bound c = omega (arith, c.requires.held.limit, c.requires.fit.few-sweeps)
+
+pub read_report-requires-clause-unread : goal.read_report-requires-clause-unread
+read_report-requires-clause-unread c = unread c.empty-read.ensures
 
 pub returns-then-not-read_report : goal.returns-then-not-read_report
 returns-then-not-read_report c = λ f h.

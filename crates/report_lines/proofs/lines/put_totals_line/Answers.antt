@@ -15,22 +15,22 @@ use Rattle.report_lines.proofs.lines.put_totals_line.Goals.{Start}
 
 -- the sweeps as a signed number
 swept : (c : Start) → to_z w64 c.args.figures.sweeps ≡ pos c.args.figures.sweeps
-swept c = to_z_pos w64 c.args.figures.sweeps c.requires.sweeps_bound
+swept c = to_z_pos w64 c.args.figures.sweeps c.args.figures.signed
 
 pub put_number-p-requires : goal.put_number-p-requires
-put_number-p-requires c = rw (swept (goal.at.put_number-p-requires c).Start) (omega (arith, totals-length c.args.figures, c.requires.figures_in_bounds))
+put_number-p-requires c = rw (swept (goal.at.put_number-p-requires c).Start) (omega (arith, totals-length c.args.figures, c.requires))
 
 pub put_pair-q-requires : goal.put_pair-q-requires
-put_pair-q-requires c = omega (arith, totals-length c.args.figures, c.requires.figures_in_bounds, ap (λ z. length (decimal z)) (swept (goal.at.put_pair-q-requires c).Start))
+put_pair-q-requires c = omega (arith, totals-length c.args.figures, c.requires, ap (λ z. length (decimal z)) (swept (goal.at.put_pair-q-requires c).Start))
 
 pub put_pair-s-requires : goal.put_pair-s-requires
-put_pair-s-requires c = omega (arith, totals-length c.args.figures, c.requires.figures_in_bounds, ap (λ z. length (decimal z)) (swept (goal.at.put_pair-s-requires c).Start))
+put_pair-s-requires c = omega (arith, totals-length c.args.figures, c.requires, ap (λ z. length (decimal z)) (swept (goal.at.put_pair-s-requires c).Start))
 
 pub put_pair-t-requires : goal.put_pair-t-requires
-put_pair-t-requires c = omega (arith, totals-length c.args.figures, c.requires.figures_in_bounds, ap (λ z. length (decimal z)) (swept (goal.at.put_pair-t-requires c).Start))
+put_pair-t-requires c = omega (arith, totals-length c.args.figures, c.requires, ap (λ z. length (decimal z)) (swept (goal.at.put_pair-t-requires c).Start))
 
 pub put_byte-requires : goal.put_byte-requires
-put_byte-requires c = omega (arith, totals-length c.args.figures, c.requires.figures_in_bounds, ap (λ z. length (decimal z)) (swept (goal.at.put_byte-requires c).Start))
+put_byte-requires c = omega (arith, totals-length c.args.figures, c.requires, ap (λ z. length (decimal z)) (swept (goal.at.put_byte-requires c).Start))
 
 pub returns : goal.returns
 unfolding totals_row

@@ -13,7 +13,7 @@ use Rattle.report_lines.proofs.widths.totals_line_width.Goals.{Start}
 
 -- the sweeps as a signed number
 swept : (c : Start) → to_z w64 c.args.figures.sweeps ≡ pos c.args.figures.sweeps
-swept c = to_z_pos w64 c.args.figures.sweeps c.requires
+swept c = to_z_pos w64 c.args.figures.sweeps c.args.figures.signed
 
 pub overflow_add-result : goal.overflow_add-result
 overflow_add-result c = let g = c.args.figures in omega (arith, decimal-fits (to_z w64 g.sweeps), pair-most (fits g.source), pair-most (fits g.drawn), pair-most (fits g.lost))

@@ -28,4 +28,4 @@ pub returns-in_err-next : goal.returns-in_err-next
 returns-in_err-next c = rw c.from_residual-in_err-next.ensures (row_as 2 8 _ _ _ _ _ None _ (both (goal.at.returns-in_err-next c).In_ok-second) (c.read_numbers.ensures.value ReportLayout) c.in_err-next.was)
 
 pub returns : goal.returns
-returns c = branch_held _ _ _ _ _ _ _ c.in_ok-next.was c.three_of-three.ensures c.within_three-inside.ensures (c.read_numbers.ensures.past _ c.in_ok-next.was (omega arith)).1 _ _ (both (goal.at.returns c).In_ok-second) (c.read_numbers.ensures.value ReportLayout) refl refl c.pair_of-pair.ensures
+returns c = branch_held _ _ _ _ _ _ _ c.in_ok-next.was c.three_at-currents.ensures c.within_three-inside.ensures (c.read_numbers.ensures.past _ c.in_ok-next.was (omega arith)).1 _ _ (both (goal.at.returns c).In_ok-second) (c.read_numbers.ensures.value ReportLayout) refl refl c.pair_at-loss.ensures

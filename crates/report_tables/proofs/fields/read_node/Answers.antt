@@ -21,4 +21,4 @@ pub returns-in_err-next : goal.returns-in_err-next
 returns-in_err-next c = rw c.from_residual-in_err-next.ensures (row_as 1 6 _ _ _ _ _ None _ (node-names _ _ _ _ (name (goal.at.returns-in_err-next c).In_ok-first)) (c.read_numbers.ensures.value ReportLayout) c.in_err-next.was)
 
 pub returns : goal.returns
-returns c = node-held _ _ _ _ _ _ _ c.in_ok-next.was c.three_of-three.ensures c.within_three-inside.ensures (c.read_numbers.ensures.past _ c.in_ok-next.was (omega arith)).1 _ (node-names _ _ _ _ (name (goal.at.returns c).In_ok-first)) (c.read_numbers.ensures.value ReportLayout) (search rules) refl refl refl
+returns c = node-held _ _ _ _ _ _ _ c.in_ok-next.was c.three_at-voltages.ensures c.within_three-inside.ensures (c.read_numbers.ensures.past _ c.in_ok-next.was (omega arith)).1 _ (node-names _ _ _ _ (name (goal.at.returns c).In_ok-first)) (c.read_numbers.ensures.value ReportLayout) (search rules) refl refl refl

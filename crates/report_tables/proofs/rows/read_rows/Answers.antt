@@ -14,7 +14,7 @@ returns-in_err-row c = rw c.from_residual.ensures (going-stop _ _ _ _ _ _ _ c.lo
 
 pub loop-k-preserved : goal.loop-k-preserved
 loop-k-preserved c =
-    going_next _ _ _ _ _ _ _ c.loop-k.invariant _ _ _ _ _ c.loop-k-test.true (MatchOption-at_some _ _ _ c.in_ok-row.was c.read_row.ensures) c.put_three.ensures c.put_pair.ensures
+    going_next _ _ _ _ _ _ _ c.loop-k.invariant _ _ _ _ _ c.loop-k-test.true (MatchOption-at_some _ _ _ c.in_ok-row.was c.read_row.ensures) refl refl
     (elim c.if-t.branch [ then-t w ↦ rw (w.if-t.true, w.inside-is) refl | else-t w ↦ rw (w.inside-is, w.if-t.false) refl ])
 
 pub returns : goal.returns

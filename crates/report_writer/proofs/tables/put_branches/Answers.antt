@@ -1,50 +1,35 @@
 -- `report_writer::tables::put_branches` meets its contract: at each turn the lines of the rows that are left, and the empty line, are due. Assumes nothing.
 use mathlib.Core.List.{[], ◌∷◌}
-use Prim.Native.Nat.{◌+◌, ◌<◌, ◌≤◌}
+use Prim.Native.Nat.{◌+◌, ◌≤◌}
 use native.Mathlib.Omega.{arith}
 use lib.ListN.{length, length-append}
-use Rattle.arrays.specs.Arrays.{branches_of, pairs_of, threes_of}
 use Rattle.report_writer.specs.TableLaws.{branch-table-length}
 use Rattle.report_writer.specs.Tables.{branch_line_at, branch_table, lines_from}
-use Rattle.report_writer.specs.Writing.{due_from, empty_line, end-room, end-written, line-room, line-written, writing-all}
+use Rattle.report_writer.specs.Writing.{due_from, empty_line, end-room, end-written, line-room, line-written}
 use Rattle.text.specs.Stores.{written_behind}
 use Rattle.text.specs.Text.{bytes}
 use Rattle.report_writer.proofs.tables.put_branches.Goals as goal
-use Rattle.report_writer.proofs.tables.put_branches.Goals.{After-from_at-from, At-loop-row}
+use Rattle.report_writer.proofs.tables.put_branches.Goals.{At-loop-row}
 
 -- behind the column names there is room for the lines and the empty line
 room : (c : At-loop-row) →
     let a = c.args in
-    c.put_bytes-at.result + length (due_from (branch_line_at a.nodes.now (branches_of a.branches.now) (threes_of a.i.now) (pairs_of a.losses.now)) empty_line 1 a.rows) ≤ length c.put_bytes-at.new.out
+    c.put_bytes-at.result + length (due_from (branch_line_at a.network.now a.i.now a.losses.now) empty_line 1 a.network.now.rows) ≤ length c.put_bytes-at.new.out
 room c =
     let a = c.args in
-    let g = branch_line_at a.nodes.now (branches_of a.branches.now) (threes_of a.i.now) (pairs_of a.losses.now) in
-    omega (arith, branch-table-length g a.rows, length-append (lines_from g 1 a.rows) (10 ∷ []), c.requires.rows_in_bounds, c.put_bytes-at.ensures.next, c.put_bytes-at.auto.out)
+    let g = branch_line_at a.network.now a.i.now a.losses.now in
+    omega (arith, branch-table-length g a.network.now.rows, length-append (lines_from g 1 a.network.now.rows) (10 ∷ []), c.requires.rows_in_bounds, c.put_bytes-at.ensures.next, c.put_bytes-at.auto.out)
 
-pub put_bytes-at-requires : goal.put_bytes-at-requires
-put_bytes-at-requires c = let a = c.args in omega (arith, branch-table-length (branch_line_at a.nodes.now (branches_of a.branches.now) (threes_of a.i.now) (pairs_of a.losses.now)) a.rows, c.requires.rows_in_bounds)
-
-pub loop-row-init : goal.loop-row-init
-loop-row-init c = writing-all _ _ _ _ _ _
-
--- the from-node of a row has a name
-from : (c : After-from_at-from) → c.from_at-from.result < 201
-from c =
-    rw c.from_at-from.ensures (c.requires.linked c.loop-row.row c.loop-row.invariant.low (omega arith))
-
-pub offset_bounds-nodes-from : goal.offset_bounds-nodes-from
-offset_bounds-nodes-from c = omega (arith, from c)
-
-pub bounds-nodes-from : goal.bounds-nodes-from
-bounds-nodes-from c = omega (arith, from (goal.at.bounds-nodes-from c).After-from_at-from)
+pub bounds-network-network : goal.bounds-network-network
+bounds-network-network c = c.requires.linked c.loop-row.row c.loop-row.invariant.low (omega arith)
 
 pub put_branch-at-requires : goal.put_branch-at-requires
 unfolding branch_line_at
-put_branch-at-requires c = rw (c.from_at-from.ensures, c.three_at-x.ensures, c.pair_at-loss.ensures) (line-room c.loop-row.invariant (omega arith) (room (goal.at.put_branch-at-requires c).At-loop-row))
+put_branch-at-requires c = line-room c.loop-row.invariant (omega arith) (room (goal.at.put_branch-at-requires c).At-loop-row)
 
 pub loop-row-preserved : goal.loop-row-preserved
 unfolding branch_line_at
-loop-row-preserved c = line-written c.loop-row.invariant (omega arith) (rw (c.from_at-from.ensures, c.three_at-x.ensures, c.pair_at-loss.ensures) at c.put_branch-at.ensures)
+loop-row-preserved c = line-written c.loop-row.invariant (omega arith) c.put_branch-at.ensures
 
 pub put_byte-requires : goal.put_byte-requires
 put_byte-requires c = end-room c.loop-row.invariant (omega arith) (room (goal.at.put_byte-requires c).At-loop-row)

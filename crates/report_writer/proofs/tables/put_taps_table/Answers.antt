@@ -3,10 +3,9 @@ use mathlib.Core.List.{[], append-nil}
 use Prim.Native.Nat.{◌+◌, ◌≤◌}
 use native.Mathlib.Omega.{arith}
 use lib.ListN.{length}
-use Rattle.arrays.specs.Arrays.{branches_of}
 use Rattle.report_writer.specs.TableLaws.{tap-table-length}
 use Rattle.report_writer.specs.Tables.{lines_from, tap_line_at, tap_table}
-use Rattle.report_writer.specs.Writing.{due_from, line-room, line-written, none_written, writing-all}
+use Rattle.report_writer.specs.Writing.{due_from, line-room, line-written, none_written}
 use Rattle.text.specs.Stores.{written_behind}
 use Rattle.text.specs.Text.{bytes}
 use Rattle.report_writer.proofs.tables.put_taps_table.Goals as goal
@@ -15,20 +14,14 @@ use Rattle.report_writer.proofs.tables.put_taps_table.Goals.{At-loop-k}
 -- behind the column names there is room for the lines
 room : (c : At-loop-k) →
     let a = c.args in
-    c.put_bytes-at.result + length (due_from (tap_line_at a.nodes.now (branches_of a.branches.now)) [] 1 a.rows) ≤ length c.put_bytes-at.new.out
+    c.put_bytes-at.result + length (due_from (tap_line_at a.network.now) [] 1 a.network.now.rows) ≤ length c.put_bytes-at.new.out
 room c =
     let a = c.args in
-    let g = tap_line_at a.nodes.now (branches_of a.branches.now) in
-    rw (append-nil (lines_from g 1 a.rows)) (omega (arith, tap-table-length g a.rows, c.requires.rows_in_bounds, c.put_bytes-at.ensures.next, c.put_bytes-at.auto.out))
-
-pub put_bytes-at-requires : goal.put_bytes-at-requires
-put_bytes-at-requires c = let a = c.args in omega (arith, tap-table-length (tap_line_at a.nodes.now (branches_of a.branches.now)) a.rows, c.requires.rows_in_bounds)
-
-pub loop-k-init : goal.loop-k-init
-loop-k-init c = writing-all _ _ _ _ _ _
+    let g = tap_line_at a.network.now in
+    rw (append-nil (lines_from g 1 a.network.now.rows)) (omega (arith, tap-table-length g a.network.now.rows, c.requires, c.put_bytes-at.ensures.next, c.put_bytes-at.auto.out))
 
 pub put_tap_line-at-requires : goal.put_tap_line-at-requires
-put_tap_line-at-requires c = record { k_bound = omega (arith, c.requires.rows_bound); k_in_bounds = line-room c.loop-k.invariant (omega arith) (room (goal.at.put_tap_line-at-requires c).At-loop-k) }
+put_tap_line-at-requires c = record { k_bound = omega (arith, c.args.network.now.few_rows); k_in_bounds = line-room c.loop-k.invariant (omega arith) (room (goal.at.put_tap_line-at-requires c).At-loop-k) }
 
 pub loop-k-preserved : goal.loop-k-preserved
 loop-k-preserved c = line-written c.loop-k.invariant (omega arith) c.put_tap_line-at.ensures

@@ -2,11 +2,10 @@
 use mathlib.Core.Path.{◌≡◌}
 use Prim.Native.Nat.{◌*◌, ◌+◌, ◌≤◌}
 use lib.ListN.{length}
-use Rattle.arrays.specs.Arrays.{branches_of, pairs_of, threes_of}
 use Rattle.report_writer.specs.Tables.{branch_line_at, lines_from}
 use Rattle.report_writer.proofs.widths.branches_width.Given as goal
 
 abbrev pub invariant-loop-row : goal.invariant-loop-row
 invariant-loop-row l =
-    let g = branch_line_at l.nodes (branches_of l.branches) (threes_of l.i) (pairs_of l.losses) in
-    record { whole : l.width + length (lines_from g l.row l.rows) ≡ 59 + length (lines_from g 1 l.rows); size : l.width ≤ 59 + 194 * l.row }
+    let g = branch_line_at l.network l.i l.losses in
+    record { whole : l.width + length (lines_from g l.row l.network.rows) ≡ 59 + length (lines_from g 1 l.network.rows); size : l.width ≤ 59 + 194 * l.row }

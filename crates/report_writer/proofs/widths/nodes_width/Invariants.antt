@@ -2,11 +2,10 @@
 use mathlib.Core.Path.{◌≡◌}
 use Prim.Native.Nat.{◌*◌, ◌+◌, ◌≤◌}
 use lib.ListN.{length}
-use Rattle.arrays.specs.Arrays.{threes_of}
 use Rattle.report_writer.specs.Tables.{lines_from, node_line_at}
 use Rattle.report_writer.proofs.widths.nodes_width.Given as goal
 
 abbrev pub invariant-loop-k : goal.invariant-loop-k
 invariant-loop-k l =
-    let g = node_line_at l.nodes (threes_of l.v) in
-    record { whole : l.width + length (lines_from g l.k l.rows) ≡ 42 + length (lines_from g 0 l.rows); size : l.width ≤ 42 + 141 * l.k }
+    let g = node_line_at l.network l.v in
+    record { whole : l.width + length (lines_from g l.k l.network.rows) ≡ 42 + length (lines_from g 0 l.network.rows); size : l.width ≤ 42 + 141 * l.k }

@@ -2,11 +2,10 @@
 use mathlib.Core.Path.{◌≡◌}
 use Prim.Native.Nat.{◌*◌, ◌+◌, ◌≤◌}
 use lib.ListN.{length}
-use Rattle.arrays.specs.Arrays.{branches_of}
 use Rattle.report_writer.specs.Tables.{lines_from, tap_line_at}
 use Rattle.report_writer.proofs.widths.taps_width.Given as goal
 
 abbrev pub invariant-loop-k : goal.invariant-loop-k
 invariant-loop-k l =
-    let g = tap_line_at l.nodes (branches_of l.branches) in
-    record { whole : l.width + length (lines_from g l.k l.rows) ≡ 21 + length (lines_from g 1 l.rows); size : l.width ≤ 21 + 75 * l.k }
+    let g = tap_line_at l.network in
+    record { whole : l.width + length (lines_from g l.k l.network.rows) ≡ 21 + length (lines_from g 1 l.network.rows); size : l.width ≤ 21 + 75 * l.k }

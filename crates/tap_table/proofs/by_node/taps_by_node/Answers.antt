@@ -1,75 +1,57 @@
 -- `tap_table::by_node::taps_by_node` meets its contract: at each turn the rows in front have their taps, and the rest is to be tested. Assumes nothing.
-use mathlib.Core.Bool.{Bool, ◌&&◌, cond, false, true}
-use mathlib.Core.List.{List}
+use mathlib.Core.Bool.{Bool, ◌&&◌, false, true}
 use mathlib.Core.Path.{◌∙◌, ◌≡◌, ap, refl, sym}
-use Prim.Native.Nat.{◌+◌, ◌-◌, ◌≤◌}
+use Prim.Native.Nat.{◌+◌, ◌-◌}
 use native.Mathlib.Omega.{arith}
-use lib.ListN.{length}
-use borrow.Author.Rules.{rules}
-use Rattle.arrays.specs.Arrays.{branches_of}
-use Rattle.feeder.specs.declared.Branch.{Branch}
-use Rattle.feeder.specs.Phased.{Taps}
+use lib.ListN.{get_or, length}
+use Rattle.feeder.specs.Feeder.{no_branch, no_taps}
 use Rattle.integers.specs.Bools.{clash}
 use Rattle.report.specs.Report.{taps_fit}
-use Rattle.tap_table.specs.OwnLaws.{before-count, before-few, before-first, fits_next, fits-none, given_is, given-next, given-start}
-use Rattle.tap_table.specs.OwnRows.{fits_from, given_at, given_taps}
-use mir.Val.{bool_byte}
-use Rattle.tap_table.specs.Regulators.{one_if, one-most, regulates_in}
-use Rattle.tap_table.specs.TapTable.{taps_of}
+use Rattle.tap_table.specs.OwnLaws.{before-first, before-more, before-none, fits-none, fits-skip, fits-some, given-start, taps-skip, taps-some}
+use Rattle.tap_table.specs.OwnRows.{fits_from, given_taps}
+use Rattle.tap_table.specs.Regulators.{regulates_in}
 use Rattle.tap_table.proofs.by_node.taps_by_node.Goals as goal
-use Rattle.tap_table.proofs.by_node.taps_by_node.Goals.{After-given_taps-given, After-regulates_at-here, After-taps_fit, Start}
+use Rattle.tap_table.proofs.by_node.taps_by_node.Goals.{After-regulates, else-regulates, then-regulates+else-not-taps_fit}
 
-abbrev array : Start → List Branch
-array c = branches_of c.args.branches.now
-
-abbrev table : Start → List Taps
-table c = taps_of c.args.table.now
-
--- the table has the place that this turn reads
-few : (c : After-regulates_at-here) → c.loop-k.j ≤ 200
-few c = omega (arith, before-few (array (goal.at.After-regulates_at-here c).Start) c.loop-k.k, c.loop-k.invariant.0, c.loop-k-test.true, c.requires.rows_bound)
-
--- what the row of this turn is given
-given : (c : After-given_taps-given) → c.given_taps-given.result ≡ given_at (array (goal.at.After-given_taps-given c).Start) (table (goal.at.After-given_taps-given c).Start) c.loop-k.k
-given c = given_is _ _ _ _ _ _ c.regulates_at-here.ensures c.loop-k.invariant.0 c.given_taps-given.ensures
-
--- whether it fits, in front of the rows that are left
-fitted : (c : After-taps_fit) (d : Bool) → c.taps_fit.result ≡ d →
-    fits_from (array (goal.at.After-taps_fit c).Start) (table (goal.at.After-taps_fit c).Start) 1 c.args.rows ≡ (d && fits_from (array (goal.at.After-taps_fit c).Start) (table (goal.at.After-taps_fit c).Start) (c.loop-k.k + 1) c.args.rows)
-fitted c d e =
-    c.loop-k.invariant.2 ∙ fits_next (array (goal.at.After-taps_fit c).Start) (table (goal.at.After-taps_fit c).Start) c.loop-k.k c.args.rows (omega (arith, c.loop-k-test.true))
-    ∙ (λ i. (sym (c.taps_fit.ensures ∙ (λ j. taps_fit (c.phases_at-phases.ensures j) (given (goal.at.After-taps_fit c).After-given_taps-given j))) ∙ e) i && fits_from (array (goal.at.After-taps_fit c).Start) (table (goal.at.After-taps_fit c).Start) (c.loop-k.k + 1) c.args.rows)
-
--- what a turn adds
-adds : (c : After-regulates_at-here) → bool_byte c.regulates_at-here.result ≡ cond (regulates_in (array (goal.at.After-regulates_at-here c).Start) c.loop-k.k) 1 0
-adds c = one_if _ ∙ ap (λ (d : Bool). cond d 1 0) c.regulates_at-here.ensures
+-- the row of this turn is a regulator's, and its taps fit or not
+fitted : (c : After-regulates) → c.regulates.result ≡ true → let g = c.args.network.now in (b d : Bool) → b ≡ taps_fit (get_or g.branches c.loop-k.k no_branch).phases (get_or c.args.table.now c.loop-k.j no_taps) → b ≡ d →
+    fits_from g.branches c.args.table.now 1 g.rows ≡ (d && fits_from g.branches c.args.table.now (c.loop-k.k + 1) g.rows)
+fitted c r b d e f =
+    let g = c.args.network.now in
+    c.loop-k.invariant.fit ∙ fits-some g.branches c.args.table.now c.loop-k.k c.loop-k.j g.rows (omega (arith, c.loop-k-test.true)) (sym c.regulates.ensures ∙ r) c.loop-k.invariant.counted
+    ∙ ap (λ (x : Bool). x && fits_from g.branches c.args.table.now (c.loop-k.k + 1) g.rows) (sym e ∙ f)
 
 pub loop-k-init : goal.loop-k-init
-loop-k-init c = (sym (ap length (before-first (array c))), given-start _ _ _ c.requires.taps_value, refl)
-
-pub given_taps-given-requires : goal.given_taps-given-requires
-given_taps-given-requires c = few c
+loop-k-init c = record { few = omega arith; counted = sym (ap length (before-first c.args.network.now.branches)); given = given-start _ _ _ c.requires; fit = refl }
 
 pub returns-then-not-taps_fit : goal.returns-then-not-taps_fit
-returns-then-not-taps_fit c = record { fit = sym (fitted (goal.at.returns-then-not-taps_fit c).After-taps_fit false c.if-not-taps_fit.true); held = λ z. clash false z refl }
-
-pub store_taps-requires : goal.store_taps-requires
-store_taps-requires c = let h = few (goal.at.store_taps-requires c).After-regulates_at-here in search rules
-
-pub overflow_add-j : goal.overflow_add-j
-overflow_add-j c =
-    let h = before-few (array (goal.at.overflow_add-j c).Start) c.loop-k.k in
-    let n : bool_byte c.regulates_at-here.result ≤ 1 = rw (adds (goal.at.overflow_add-j c).After-regulates_at-here) (one-most (regulates_in (array (goal.at.overflow_add-j c).Start) c.loop-k.k)) in
-    omega (arith, c.loop-k.invariant.0, c.loop-k-test.true, c.requires.rows_bound)
+returns-then-not-taps_fit c = record { fit = sym (fitted (goal.at.returns-then-not-taps_fit c).After-regulates c.if-regulates.true _ false c.taps_fit.ensures c.if-not-taps_fit.true); held = λ z. clash false z refl }
 
 pub loop-k-preserved : goal.loop-k-preserved
-loop-k-preserved c = (
-  omega (arith, adds (goal.at.loop-k-preserved c).After-regulates_at-here, c.loop-k.invariant.0, before-count (array (goal.at.loop-k-preserved c).Start) c.loop-k.k c.loop-k.auto.k),
-  given-next (array (goal.at.loop-k-preserved c).Start) (table (goal.at.loop-k-preserved c).Start) c.loop-k.k _ _ _ c.loop-k.auto.k (omega (arith, c.loop-k-test.true, c.requires.rows_bound)) c.loop-k.invariant.1 (given (goal.at.loop-k-preserved c).After-given_taps-given) c.store_taps.ensures,
-  fitted (goal.at.loop-k-preserved c).After-taps_fit true c.if-not-taps_fit.false,
-)
+loop-k-preserved c =
+    let g = c.args.network.now in
+    let i = c.loop-k.invariant in
+    elim c.if-regulates.branch [
+      | then-regulates+else-not-taps_fit w ↦
+          let r : regulates_in g.branches c.loop-k.k ≡ true = sym c.regulates.ensures ∙ w.if-regulates.true in
+          record {
+            few = omega (arith, w.j-is, i.few);
+            counted = w.j-is ∙ before-more g.branches c.loop-k.k c.loop-k.j c.loop-k.auto.k r i.counted;
+            given = w.taps-is ∙ taps-some g.branches c.args.table.now c.loop-k.k c.loop-k.j c.loop-k.taps c.loop-k.auto.k (omega (arith, c.loop-k-test.true, c.args.network.now.few_rows)) r i.counted i.given;
+            fit = fitted (goal.at.loop-k-preserved c).After-regulates w.if-regulates.true _ true w.taps_fit.ensures w.if-not-taps_fit.false;
+          }
+      | else-regulates w ↦
+          let r : regulates_in g.branches c.loop-k.k ≡ false = sym c.regulates.ensures ∙ w.if-regulates.false in
+          record {
+            few = omega (arith, w.j-is, i.few);
+            counted = w.j-is ∙ i.counted ∙ sym (ap length (before-none g.branches c.loop-k.k c.loop-k.auto.k r));
+            given = w.taps-is ∙ i.given ∙ taps-skip g.branches c.args.table.now c.loop-k.k c.loop-k.auto.k r;
+            fit = i.fit ∙ fits-skip g.branches c.args.table.now c.loop-k.k g.rows (omega (arith, c.loop-k-test.true)) r;
+          }
+    ]
 
 pub returns : goal.returns
 returns c =
-    let z : c.loop-k.k - 1 ≡ c.args.rows = omega (arith, c.loop-k-test.false, c.loop-k.auto.k-end) in
-    record { fit = sym (c.loop-k.invariant.2 ∙ fits-none (array (goal.at.returns c).Start) (table (goal.at.returns c).Start) c.loop-k.k c.args.rows (omega (arith, c.loop-k-test.false))); held = λ e. c.loop-k.invariant.1 ∙ ap (given_taps (array (goal.at.returns c).Start) (table (goal.at.returns c).Start)) z }
+    let g = c.args.network.now in
+    let z : c.loop-k.k - 1 ≡ g.rows = omega (arith, c.loop-k-test.false, c.loop-k.auto.k-end) in
+    record { fit = sym (c.loop-k.invariant.fit ∙ fits-none g.branches c.args.table.now c.loop-k.k g.rows (omega (arith, c.loop-k-test.false))); held = λ e. c.loop-k.invariant.given ∙ ap (given_taps g.branches c.args.table.now) z }

@@ -6,12 +6,11 @@ use lib.ListN.{get_or}
 use Rattle.std.proofs.Common.{rules, tests}
 use Rattle.std.proofs.lemmas.Iterator.{YieldsList-from_range}
 use Rattle.std.proofs.lemmas.Iterator.Search.{any_from_yields_List}
-use Rattle.arrays.specs.Arrays.{branches_of, is_on}
-use Rattle.feeder.specs.Feeder.{level_of, no_branch}
+use Rattle.feeder.specs.Feeder.{moves_taps, no_branch}
 use Rattle.tap_table.specs.OwnLaws.{levels-any}
 use Rattle.tap_table.proofs.own.any_level.Goals as goal
 
 pub returns : goal.returns
 returns c =
-    any_from_yields_List (λ k. is_on (level_of (get_or (branches_of c.args.branches.now) k no_branch).device)) _ _ _ c.any.ensures.ran (YieldsList-from_range 1 (c.args.rows + 1) c.args.rows (cc) (omega arith)) (λ x b q k. search (rules, tests))
-    ∙ levels-any (branches_of c.args.branches.now) c.args.rows
+    any_from_yields_List (λ k. moves_taps (get_or c.args.network.now.branches k no_branch).device) _ _ _ c.any.ensures.ran (YieldsList-from_range 1 (c.args.network.now.rows + 1) c.args.network.now.rows (cc) (omega arith)) (λ x b q k. search (rules, tests))
+    ∙ levels-any c.args.network.now.branches c.args.network.now.rows

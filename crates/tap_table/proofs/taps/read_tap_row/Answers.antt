@@ -2,6 +2,7 @@
 use Rattle.std.specs.Prelude.{Some, None}
 use mathlib.Core.Path.{◌∙◌, ◌≡◌, refl, sym}
 use native.Mathlib.Omega.{arith}
+use borrow.Author.Rules.{rules}
 use Rattle.answers.specs.declared.Refusal.TheVariants.{ReportLayout}
 use Rattle.text.specs.LineLaws.{names-stop, row-stop}
 use Rattle.text.specs.Text.{name_at}
@@ -21,4 +22,4 @@ pub returns-in_err-next : goal.returns-in_err-next
 returns-in_err-next c = rw c.from_residual-in_err-next.ensures (row_as 1 3 _ _ _ _ _ None _ (node-names _ _ _ _ (named (goal.at.returns-in_err-next c).In_ok-name)) (c.read_numbers.ensures.value ReportLayout) c.in_err-next.was)
 
 pub returns : goal.returns
-returns c = tap-held _ _ _ _ _ _ _ c.in_ok-next.was (c.read_numbers.ensures.past _ c.in_ok-next.was (omega arith)).1 _ (node-names _ _ _ _ (named (goal.at.returns c).In_ok-name)) (c.read_numbers.ensures.value ReportLayout) refl c.row_taps-taps.ensures
+returns c = tap-held _ _ _ _ _ _ _ c.in_ok-next.was (c.read_numbers.ensures.past _ c.in_ok-next.was (omega arith)).1 _ (node-names _ _ _ _ (named (goal.at.returns c).In_ok-name)) (c.read_numbers.ensures.value ReportLayout) refl (search rules)

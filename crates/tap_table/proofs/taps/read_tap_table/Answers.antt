@@ -24,7 +24,7 @@ pub returns-in_default : goal.returns-in_default
 returns-in_default c = stands-refused (taps-stop _ _ _ _ _ _ c.loop-k.invariant (named (goal.at.returns-in_default c).Else-not-stands) c.loop-k-test.true (MatchOption-at_none _ _ c.in_default.is c.read_tap_row.ensures)) refl
 
 pub loop-k-preserved : goal.loop-k-preserved
-loop-k-preserved c = taps-next _ _ _ _ _ _ c.loop-k.invariant _ _ _ c.requires.count_bound c.loop-k-test.true (MatchOption-at_some _ _ _ c.in-Some.is c.read_tap_row.ensures) c.store_taps.ensures
+loop-k-preserved c = taps-next _ _ _ _ _ _ c.loop-k.invariant _ _ _ c.requires.count_bound c.loop-k-test.true (MatchOption-at_some _ _ _ c.in-Some.is c.read_tap_row.ensures) refl
 
 pub returns : goal.returns
 returns c = taps-ended _ _ _ _ _ _ c.loop-k.invariant (named (goal.at.returns c).Else-not-stands) c.loop-k-test.false

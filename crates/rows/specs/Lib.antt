@@ -1,2 +1,0 @@
-pub mod RowRead
-pub mod RowReadLaws
