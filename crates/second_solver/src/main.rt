@@ -7,7 +7,6 @@
 ghost use Rattle.std.specs.Prelude.{◌≤◌, length};
 
 use answers::Refusal;
-use arrays::TapRows;
 use bounds::bound::bounds_on;
 use bounds::compare::{Compared, compare};
 use cases::{Case, Cases, read_cases, text_space};
@@ -18,6 +17,7 @@ use ladder::{Written, study_feeder};
 use programs::{print, print_refusal, used};
 use reading::read_into;
 use report_reader::{ReportArrays, read_report};
+use reported_taps::set_taps;
 
 // x in hundredths, to the nearest whole number; 0 where there is none.
 fn hundredths(x: f64) -> u64 {
@@ -111,13 +111,6 @@ fn limit_of(limit: usize) -> usize
     limit.min(100)
 }
 
-// All regulators take the reported taps, which stand by node number.
-fn take_taps(network: &mut Network, taps: &TapRows) {
-    for k in 1..network.rows + 1 {
-        network.branches[k].set_taps(taps[k]);
-    }
-}
-
 // The line of a feeder in memory with the text of its report, behind its name. It is solved with the taps of the report's last table.
 #[tactic(auto, using(report_reader::specs::ReportLaws::unread))]
 fn try_written(rt: &impl Print, network: &mut Network, written: &[u8]) {
@@ -127,7 +120,7 @@ fn try_written(rt: &impl Print, network: &mut Network, written: &[u8]) {
         print(rt, b" OVER: the report is not read\n");
         return;
     }
-    take_taps(network, &report.taps);
+    set_taps(&mut network.branches, network.rows, &report.taps);
     try_report(rt, network, &report);
 }
 
