@@ -148,7 +148,9 @@ pub fn root(n: u64) -> Rooted
     let mut square = first_place_squared(digits);
     let mut trial = square;
     let mut left = n;
-    for _ in 0..digits {
+    // A while, since the count of steps is the loop's own variable: no turn can be made that it does not count.
+    let mut steps = 0u32;
+    while steps < digits {
         let next = square >> 2;
         let low = (trial >> 1) - next;
         if trial <= left {
@@ -158,9 +160,7 @@ pub fn root(n: u64) -> Rooted
             trial = low;
         }
         square = next;
+        steps += 1;
     }
-    Rooted {
-        root: trial,
-        steps: digits,
-    }
+    Rooted { root: trial, steps }
 }
