@@ -10,12 +10,16 @@ fn main(rt: HostRuntime) {
     let mut report = [0u8; 65537];
     let mut out = [0u8; 4096];
     let usage = b"usage: archive_check FEEDER REPORT";
-    let Some(n) = read_argument(&rt, 1, usage, &mut feeder) else {
+    let Some(feeder_input) = read_argument(&rt, 1, usage, &mut feeder) else {
         return;
     };
-    let Some(m) = read_argument(&rt, 2, usage, &mut report) else {
+    let Some(report_input) = read_argument(&rt, 2, usage, &mut report) else {
         return;
     };
-    let length = put_check_answer(&feeder[..n], &report[..m], &mut out);
+    let length = put_check_answer(
+        &feeder[..feeder_input.size()],
+        &report[..report_input.size()],
+        &mut out,
+    );
     print_answer(&rt, &out[..length]);
 }

@@ -6,7 +6,7 @@ ghost use Rattle.std.specs.Prelude.{◌≡◌, length, IfOk, IfSome};
 ghost use Rattle.std.specs.Io.{ReadsAtMost};
 ghost use Rattle.std.specs.Result.{result_ok};
 ghost use Rattle.io.specs.Counts.{IsPrefixLen};
-ghost use Rattle.programs.specs.Input.{ReadWhole};
+ghost use Rattle.programs.specs.Input.{ReadWhole, WholeOrMore, size_of};
 
 use answer_text::put_refusal;
 use answers::Refusal;
@@ -15,13 +15,34 @@ use std::fs::Files;
 use std::io::{Error, ErrorKind, Read};
 use std::{fs, io, str};
 
+// How many bytes of an input stand at the start of the room that it was read into, and why no more was read. A room has one byte more than 65,536, which is
+// enough for a longer input to meet refusal 9.
+#[derive(Clone, Copy, PartialEq, Eq)]
+pub enum Input {
+    // The input ended.
+    Whole(usize),
+    // The room is full, and the input may go on.
+    Full(usize),
+}
+
+impl Input {
+    // How many bytes were read.
+    pub fn size(self) -> usize
+        ensures { result ≡ size_of self }
+    {
+        match self {
+            Input::Whole(size) | Input::Full(size) => size,
+        }
+    }
+}
+
 // Names on standard error what failed, and why. Where that cannot be written, nothing is left to tell it to.
 fn tell(rt: &impl Eprint, what: &str, why: Error) {
     let _ = eprintln!(rt; "{what}: {why}");
 }
 
-// How many bytes were read. A failure is named as that of `what`.
-pub fn told(rt: &impl Eprint, what: &str, read: io::Result<usize>) -> Option<usize>
+// What was read. A failure is named as that of `what`.
+pub fn told<T>(rt: &impl Eprint, what: &str, read: io::Result<T>) -> Option<T>
     ensures { result ≡ result_ok read }
 {
     read.map_err(|why| tell(rt, what, why)).ok()
@@ -44,21 +65,39 @@ pub fn read_whole<R: Read>(reader: &mut R, room: &mut [u8]) -> io::Result<usize>
     Ok(size)
 }
 
-// Standard input. A room of one byte more than 65,536 is enough for a longer input to meet refusal 9.
-pub fn read_input(rt: &(impl io::Input + Eprint), file: &mut [u8]) -> Option<usize>
+// The input of a reader: the whole of it, or more than 65,536 bytes.
+fn read_room<R: Read>(reader: &mut R, file: &mut [u8]) -> io::Result<Input>
     requires { length file.old ≡ 65537 }
-    ensures { IfSome result (λ n. IsPrefixLen n file.new) }
+    ensures whole { IfOk result WholeOrMore }
+    ensures part { IfOk result (λ x. IsPrefixLen (size_of x) file.new) }
+    ensures end { IfOk result (λ x. ReadWhole (size_of x) file.new (R.remaining reader.new)) }
+{
+    let size = read_whole(reader, file)?;
+    if size < file.len() {
+        Ok(Input::Whole(size))
+    } else {
+        Ok(Input::Full(size))
+    }
+}
+
+// Standard input.
+pub fn read_input(rt: &(impl io::Input + Eprint), file: &mut [u8]) -> Option<Input>
+    requires { length file.old ≡ 65537 }
+    ensures whole { IfSome result WholeOrMore }
+    ensures part { IfSome result (λ x. IsPrefixLen (size_of x) file.new) }
 {
     let mut reader = rt.reader();
-    told(rt, "standard input", read_whole(&mut reader, file))
+    told(rt, "standard input", read_room(&mut reader, file))
 }
 
 // The file of a path.
-fn read_file(rt: &impl Files, path: &str, file: &mut [u8]) -> io::Result<usize>
-    ensures { ReadsAtMost result file.new }
+fn read_file(rt: &impl Files, path: &str, file: &mut [u8]) -> io::Result<Input>
+    requires { length file.old ≡ 65537 }
+    ensures whole { IfOk result WholeOrMore }
+    ensures part { IfOk result (λ x. IsPrefixLen (size_of x) file.new) }
 {
     let mut reader = fs::open(rt, path)?;
-    read_whole(&mut reader, file)
+    read_room(&mut reader, file)
 }
 
 // The words that bytes spell in UTF-8.
@@ -72,9 +111,10 @@ pub fn read_argument(
     index: usize,
     usage: &[u8],
     file: &mut [u8],
-) -> Option<usize>
+) -> Option<Input>
     requires { length file.old ≡ 65537 }
-    ensures { IfSome result (λ n. IsPrefixLen n file.new) }
+    ensures whole { IfSome result WholeOrMore }
+    ensures part { IfSome result (λ x. IsPrefixLen (size_of x) file.new) }
 {
     let mut path = [0u8; 4096];
     let Ok(length) = rt.arg(index, &mut path) else {

@@ -8,9 +8,9 @@ use study_answer::put_study_answer;
 fn main(rt: HostRuntime) {
     let mut file = [0u8; 65537];
     let mut out = [0u8; 65536];
-    let Some(size) = read_input(&rt, &mut file) else {
+    let Some(input) = read_input(&rt, &mut file) else {
         return;
     };
-    let length = put_study_answer(&file[..size], &mut out);
+    let length = put_study_answer(&file[..input.size()], &mut out);
     print_answer(&rt, &out[..length]);
 }
