@@ -18,10 +18,10 @@
 // Where these sweeps settle, no report that follows documents 01 and 02 is further off: what a report is off by is at most one more sweep of itself. Where they
 // do not, as near a collapse of the voltage, there is no bound.
 use arrays::Threes;
-use feeder::{Load, LoadKind, Network, PerPhase, Terminals, Three};
+use feeder::{Load, LoadKind, PerPhase, Terminals, Three};
 use floats::component::{Quantity, rounding};
-use floats::phasor::{Phasor, PhasorRows, Phasors, Solution, ZERO, no_rows, real};
-use floats::solver::{low, on_phases, place, sweep, voltage_across};
+use floats::phasor::{Phasor, PhasorRows, Phasors, Solution, ZERO, no_rows, real, root};
+use floats::solver::{Feeder, low, on_phases, place, sweep, voltage_across};
 use std::ops::Add;
 
 // What the currents at constant power and as an impedance differ by, at a voltage of length x.
@@ -82,15 +82,15 @@ fn load_bounds(l: Load, solved: Phasors, reported: Three, bounds: Phasors, moved
 
 // The sum over the loads at each node, from the bounds on its voltages: it stands in the currents.
 fn drawn_bounds(
-    network: &Network,
+    feeder: Feeder<'_>,
     solved: &PhasorRows,
     reported: &Threes,
     moved: f64,
     bounds: &mut Solution,
 ) {
     bounds.currents = no_rows();
-    for row in 0..network.count {
-        let l = network.loads[row];
+    for row in 0..feeder.loads.len() {
+        let l = feeder.loads[row];
         let node = place(l.node);
         let e = bounds.voltages[node];
         let added = load_bounds(l, solved[node], reported[node], e, moved);
@@ -102,17 +102,17 @@ fn drawn_bounds(
 // enough. They stand in re, and are 0 before the first sweep. The source is not off. The answer is what is added to the bounds on the voltages for the last
 // sweep's movement.
 pub fn bounds_on(
-    network: &Network,
+    feeder: Feeder<'_>,
     solved: &PhasorRows,
     reported: &Threes,
     bounds: &mut Solution,
 ) -> Option<f64> {
     let none = PerPhase::same(ZERO);
-    let moved = 2.0f64.sqrt() * std::num::nearest_u64_to_f64(network.tol);
+    let moved = root(2.0) * std::num::nearest_u64_to_f64(feeder.tol);
     bounds.voltages = no_rows();
     for _ in 0..1000 {
-        drawn_bounds(network, solved, reported, moved, bounds);
-        if sweep(network, Quantity::Bound, none, bounds) {
+        drawn_bounds(feeder, solved, reported, moved, bounds);
+        if sweep(feeder, Quantity::Bound, none, bounds) {
             return Some(moved);
         }
     }

@@ -3,7 +3,7 @@
 //
 // The same form says how far V_m and J are off where V_n and I are off by so much: lengths stand in the place of phasors, with no minus, so that nothing
 // cancels, and the study's roundings are added.
-use crate::phasor::{Phasor, Phasors, Reals, ZERO, present, real};
+use crate::phasor::{Phasor, Phasors, Reals, ZERO, present, real, root};
 use feeder::{Branch, Connection, Device, LineZ, PerPhase, Phases, Taps, Windings};
 use std::ops::Add;
 
@@ -149,7 +149,7 @@ fn values_of(b: Branch) -> Component {
 
 // How far one rounding moves a phasor at most: by 1/2 in re and in im.
 pub fn rounding() -> f64 {
-    0.5f64.sqrt()
+    root(0.5)
 }
 
 // What the study's roundings of a voltage on its way through add to a bound. To a value they add nothing.

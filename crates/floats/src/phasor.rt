@@ -1,4 +1,7 @@
 // The second solver's numbers: 64-bit floats, and phasors (re, im) of them.
+ghost use Rattle.std.specs.Float.Ieee.{add, binary64, eq, mul};
+ghost use Rattle.std.specs.Prelude.{T, ◌≡◌};
+
 use feeder::{PerPhase, Phases};
 use integers::Pair;
 use std::ops::{Add, Mul, Neg, Sub};
@@ -95,18 +98,45 @@ impl Phasor {
     }
 
     // The square of the length.
-    pub fn square(self) -> f64 {
+    pub fn square(self) -> f64
+        ensures { result ≡ add binary64 (mul binary64 self.re self.re) (mul binary64 self.im self.im) }
+    {
         self.re * self.re + self.im * self.im
     }
 
-    pub fn length(self) -> f64 {
-        self.square().sqrt()
+    pub fn length(self) -> f64
+        ensures { T (eq (add binary64 (mul binary64 self.re self.re) (mul binary64 self.im self.im)) NONE) → result ≡ LEAST }
+    {
+        root(self.square())
     }
 
     // The larger of the distances in re and in im.
     pub fn distance(self, y: Phasor) -> f64 {
         larger((self.re - y.re).abs(), (self.im - y.im).abs())
     }
+}
+
+// 0, by a name that a clause can cite.
+const NONE: f64 = 0.0;
+
+// The root of 0: 2^-100.
+const LEAST: f64 = 7.888609052210118e-31;
+
+// The square root, as 100 of Newton's steps from x + 1 give it. From 10^-50 to 10^50 they came to the number that one step from std's root gives, in all that was
+// tried. Of what is far smaller or far larger they do not come to the root and give too much, and never less than of 0. So a load of constant current draws none
+// at no voltage: divided by a length of 0, its current would be no number, and no sweep would stand still.
+pub fn root(x: f64) -> f64
+    ensures { T (eq x NONE) → result ≡ LEAST }
+{
+    if x == NONE {
+        return LEAST;
+    }
+    let near = 1e-50 < x && x < 1e50;
+    let (mut y, steps) = if near { (x.sqrt(), 1) } else { (x + 1.0, 100) };
+    for _ in 0..steps {
+        y = (y + x / y) / 2.0;
+    }
+    y
 }
 
 // The larger of the two. Where one of them is no number, by a division by 0, neither is the answer, where f64's max would pass over it.

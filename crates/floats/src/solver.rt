@@ -3,8 +3,18 @@ ghost use Rattle.std.specs.Prelude.{◌<◌};
 
 use crate::component::{Quantity, far_voltages, near_currents};
 use crate::phasor::{Phasor, PhasorRows, Phasors, Solution, ZERO, no_rows, real};
-use feeder::{Load, LoadKind, Network, PerPhase, Terminals};
+use feeder::{Branch, Load, LoadKind, PerPhase, Terminals, Three};
 use std::ops::Add;
+
+// What the floats are given of a feeder: the load rows, and the nodes in the order of work. Nothing is asked of it: a number that is no node's is cut (`place`).
+#[derive(Clone, Copy)]
+pub struct Feeder<'a> {
+    pub source: Three,
+    pub tol: u64,
+    pub branches: &'a [Branch; 201],
+    pub loads: &'a [Load],
+    pub order: &'a [usize],
+}
 
 // A node's number, which is at most 200 in every feeder.
 pub fn place(k: usize) -> usize
@@ -62,10 +72,10 @@ fn load_currents(l: Load, voltages: Phasors) -> Phasors {
 }
 
 // What the loads draw at each node, from its voltages: it stands in the currents.
-fn drawn(network: &Network, s: &mut Solution) {
+fn drawn(feeder: Feeder<'_>, s: &mut Solution) {
     s.currents = no_rows();
-    for row in 0..network.count {
-        let l = network.loads[row];
+    for row in 0..feeder.loads.len() {
+        let l = feeder.loads[row];
         let node = place(l.node);
         let added = load_currents(l, s.voltages[node]);
         s.currents[node] = s.currents[node].zip(added, Add::add);
@@ -73,10 +83,10 @@ fn drawn(network: &Network, s: &mut Solution) {
 }
 
 // The currents, from what the loads draw at each node: upward, what the branches take is added.
-fn upward(network: &Network, quantity: Quantity, i: &mut PhasorRows) {
-    for &node in network.order[1..network.rows + 1].iter().rev() {
+fn upward(feeder: Feeder<'_>, quantity: Quantity, i: &mut PhasorRows) {
+    for &node in feeder.order.iter().rev() {
         let m = place(node);
-        let b = network.branches[m];
+        let b = feeder.branches[m];
         let n = place(b.from);
         i[n] = i[n].zip(near_currents(b, quantity, i[m]), Add::add);
     }
@@ -84,7 +94,7 @@ fn upward(network: &Network, quantity: Quantity, i: &mut PhasorRows) {
 
 // The voltages from the currents, from the source downward.
 fn downward(
-    network: &Network,
+    feeder: Feeder<'_>,
     quantity: Quantity,
     source: Phasors,
     i: &PhasorRows,
@@ -92,9 +102,9 @@ fn downward(
 ) {
     *v = no_rows();
     v[0] = source;
-    for &node in &network.order[1..network.rows + 1] {
+    for &node in feeder.order {
         let m = place(node);
-        let b = network.branches[m];
+        let b = feeder.branches[m];
         v[m] = far_voltages(b, quantity, v[place(b.from)], i[m]);
     }
 }
@@ -105,33 +115,27 @@ fn still(x: Phasors, y: Phasors) -> bool {
     x.zip(y, |p, q| p.distance(q) < least).all()
 }
 
-fn all_still(network: &Network, v: &PhasorRows, w: &PhasorRows) -> bool {
-    (1..network.rows + 1).all(|k| still(v[k], w[k]))
+fn all_still(rows: usize, v: &PhasorRows, w: &PhasorRows) -> bool {
+    (1..place(rows) + 1).all(|k| still(v[k], w[k]))
 }
 
 // One sweep, from what the loads draw at each node, which the currents hold: the currents there, the voltages to which they lead, and whether these stand still.
-pub fn sweep(network: &Network, quantity: Quantity, source: Phasors, s: &mut Solution) -> bool {
+pub fn sweep(feeder: Feeder<'_>, quantity: Quantity, source: Phasors, s: &mut Solution) -> bool {
     let mut w = no_rows();
-    upward(network, quantity, &mut s.currents);
-    downward(network, quantity, source, &s.currents, &mut w);
-    let settled = all_still(network, &s.voltages, &w);
+    upward(feeder, quantity, &mut s.currents);
+    downward(feeder, quantity, source, &s.currents, &mut w);
+    let settled = all_still(feeder.order.len(), &s.voltages, &w);
     s.voltages = w;
     settled
 }
 
 // The solution, if 1,000 sweeps are enough. The answer is the number of sweeps. Regulators have the taps that the branches hold.
-pub fn solve(network: &Network, s: &mut Solution) -> Option<usize> {
-    let source = network.source.map(Phasor::from);
-    downward(
-        network,
-        Quantity::Value,
-        source,
-        &no_rows(),
-        &mut s.voltages,
-    );
+pub fn solve(feeder: Feeder<'_>, s: &mut Solution) -> Option<usize> {
+    let source = feeder.source.map(Phasor::from);
+    downward(feeder, Quantity::Value, source, &no_rows(), &mut s.voltages);
     for sweeps in 1..1001 {
-        drawn(network, s);
-        if sweep(network, Quantity::Value, source, s) {
+        drawn(feeder, s);
+        if sweep(feeder, Quantity::Value, source, s) {
             return Some(sweeps);
         }
     }
