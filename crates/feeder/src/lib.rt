@@ -244,13 +244,13 @@ const NO_PHASES: Phases = Phases {
     c: false,
 };
 
-// What stands where there is no row.
+// What stands where there is no row. The numbers are written out: of [0; 12] the compiler makes 200 rows beside the tables, and copies them there, twice.
 const NO_BRANCH_ROW: BranchRow = BranchRow {
     from: 0,
     to: 0,
     phases: NO_PHASES,
     kind: Kind::L,
-    p: [0; 12],
+    p: [0, 0, 0, 0, 0, 0, 0, 0, 0, 0, 0, 0],
 };
 
 const NO_LOAD_ROW: LoadRow = LoadRow {

@@ -62,7 +62,9 @@ fn write_solution(
     })
 }
 
-// The study of a feeder in memory. The rounds move the taps of its branches, and the report is of these.
+// The study of a feeder in memory. The rounds move the taps of its branches, and the report is of these. Never a part of its caller: the stack of the reading is
+// free again when its own arrays are laid.
+#[inline(never)]
 pub fn study_network(network: &mut Network, out: &mut [u8]) -> Result<Written, Refusal>
     requires { Known network.old }
     ensures study { (f : Feeder) → Held f network.old → StudyAs (fitted_from f (length out.old)) out.old result out.new }

@@ -65,7 +65,13 @@ fn read_names(tables: &Tables, network: &mut Network) -> Result<(), Refusal>
     name_nodes(tables, &mut network.nodes);
     let slots = slots_of(&network.nodes, tables.rows + 1);
     number_branches(tables, &network.nodes, &slots, &mut network.branches);
-    number_loads(tables, &network.nodes, &slots, &mut network.loads);
+    number_loads(
+        tables,
+        &network.nodes,
+        tables.rows + 1,
+        &slots,
+        &mut network.loads,
+    );
     if let Some(line) = first_unknown_from(network) {
         return Err(Refusal::UnknownFrom(line));
     }
@@ -76,6 +82,8 @@ fn read_names(tables: &Tables, network: &mut Network) -> Result<(), Refusal>
 }
 
 // The feeder that a file holds into a network with no node, branch or load, or the refusal that is the lowest of those that apply anywhere in the file.
+// Never a part of its caller: the stack that the tables take is free again when the feeder is worked with.
+#[inline(never)]
 pub fn read_into(file: &[u8], network: &mut Network) -> Result<(), Refusal>
     requires nodes_value { network.old.nodes ≡ replicate 201 0 }
     requires branches_value { network.old.branches ≡ replicate 201 no_branch }

@@ -109,7 +109,8 @@ fn check_taps(network: &Network, read: &ReportArrays) -> Result<(), Refusal>
     Ok(())
 }
 
-// 50, and all that follows.
+// 50, and all that follows. Never a part of its caller: the stack of the reading is free again when its own arrays are laid.
+#[inline(never)]
 pub fn check_text(network: &Network, report: &[u8]) -> Result<(), Refusal>
     requires { Known network.now }
     ensures { (f : Feeder) → Held f network.now → result ≡ from50 f report.now }
