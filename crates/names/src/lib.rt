@@ -102,21 +102,22 @@ pub fn number_branches(
     }
 }
 
-// The loads, each with the number of its node.
+// The loads, each with the number of its node among the first n.
 pub fn number_loads(
     tables: &Tables,
     nodes: &[u64; 201],
+    n: usize,
     slots: &[u8; 4093],
     loads: &mut [Load; 300],
 )
-    requires rows_bound { tables.now.rows ≤ 200 }
     requires count_bound { tables.now.count ≤ 300 }
+    requires n_bound { n ≤ 201 }
     requires slotted { Slotted nodes.now slots.now }
-    ensures { (r : Rows) → tables.now.loads ≡ kept no_load_row 300 r.loads → tables.now.count ≡ length r.loads → loads.old ≡ replicate 300 no_load → loads.new ≡ kept no_load 300 (map (load_of (take (tables.now.rows + 1) nodes.now)) r.loads) }
+    ensures { (r : Rows) → tables.now.loads ≡ kept no_load_row 300 r.loads → tables.now.count ≡ length r.loads → loads.old ≡ replicate 300 no_load → loads.new ≡ kept no_load 300 (map (load_of (take n nodes.now)) r.loads) }
 {
     for i in 0..tables.count {
         let row = &tables.loads[i];
-        let node = find(row.node, nodes, tables.rows + 1, slots);
+        let node = find(row.node, nodes, n, slots);
         loads[i] = Load {
             node,
             phase: row.phase,

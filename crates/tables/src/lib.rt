@@ -1,7 +1,7 @@
 // The feeder's three tables, read from its file. specs/Read.antt says what each reader answers.
 #![tactic(auto)]
 
-ghost use Rattle.std.specs.Prelude.{Bool, false, true, ◌≡◌, List, ◌++◌, ◌∷◌, [], ℕ, ◌+◌, ◌<◌, ◌≤◌, ◌^◌, length, replicate, IfOk, OnOk, Some};
+ghost use Rattle.std.specs.Prelude.{Bool, false, true, ◌≡◌, List, ◌++◌, ◌∷◌, [], ℕ, ◌+◌, ◌<◌, ◌≤◌, ◌^◌, length, replicate, IfOk, Some};
 ghost use Rattle.answers.specs.Answers.{Outcome};
 ghost use Rattle.answers.specs.declared.Refusal.{Refusal};
 ghost use Rattle.feeder.specs.Layout.{layout, rows};
@@ -70,12 +70,15 @@ fn read_rows<
 }
 
 // The tables of a file, or refusal 10 with the first line that cannot go on a good file. Rows past 200 or 300 are counted, and not kept.
+// The numbers are cleared first, so that after a refusal too they are of rows that this file has.
 pub fn read_layout(file: &[u8], tables: &mut Tables) -> Result<(), Refusal>
     requires branches { tables.old.branches ≡ replicate 200 no_branch_row }
     requires loads { tables.old.loads ≡ replicate 300 no_load_row }
     ensures value { LayoutRead (layout file.now) result tables.new }
-    ensures few { OnOk result (tables.new.rows + tables.new.count ≤ length file.now) }
+    ensures few { tables.new.rows + tables.new.count ≤ length file.now }
 {
+    tables.rows = 0;
+    tables.count = 0;
     let (source, p) = read_source(file)?;
     let given = source.given;
     tables.source = source.name;

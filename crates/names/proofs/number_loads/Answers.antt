@@ -1,7 +1,6 @@
 -- `number_loads` meets its contract: the loads of the rows that passed stand in the array. Assumes nothing.
 use mathlib.Core.List.{[]}
 use mathlib.Core.Path.{◌≡◌, ap}
-use Prim.Native.Nat.{◌+◌}
 use native.Mathlib.Omega.{arith}
 use borrow.Author.Rules.{rules}
 use lib.ListN.{get_or, take}
@@ -18,11 +17,11 @@ loop-i-init c = λ r e n b. rw (b, blank-kept no_load 300)
 pub loop-i-preserved : goal.loop-i-preserved
 loop-i-preserved c = λ r e n b.
     let i = c.loop-i.i in
-    let made = load_of (take (c.args.tables.now.rows + 1) c.args.nodes.now) in
+    let made = load_of (take c.args.n c.args.nodes.now) in
     let z : read (get_or c.args.tables.now.loads i no_load_row).vn ≡ (get_or c.args.tables.now.loads i no_load_row).vn = search rules in
     rw (c.loop-i.invariant r e n b)
     (filled_next made no_load 300 [] r.loads no_load_row i i _ _ (omega arith) (omega arith) (omega (arith, n)) (omega arith)
     (rw (c.find-node.ensures, z) (ap made (load-row r.loads e i _ (omega arith)))))
 
 pub returns : goal.returns
-returns c = λ r e n b. rw (c.loop-i.invariant r e n b, filled_all (load_of (take (c.args.tables.now.rows + 1) c.args.nodes.now)) [] r.loads c.loop-i.i (omega (arith, n)))
+returns c = λ r e n b. rw (c.loop-i.invariant r e n b, filled_all (load_of (take c.args.n c.args.nodes.now)) [] r.loads c.loop-i.i (omega (arith, n)))

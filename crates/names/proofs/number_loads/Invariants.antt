@@ -1,7 +1,6 @@
 -- `number_loads` meets its contract: the loads of the rows that passed stand in the array. Assumes nothing.
 use mathlib.Core.List.{[]}
 use mathlib.Core.Path.{◌≡◌}
-use Prim.Native.Nat.{◌+◌}
 use lib.ListN.{length, replicate, take}
 use Rattle.feeder.specs.Feeder.{load_of}
 use Rattle.feeder.specs.Layout.{Rows}
@@ -11,4 +10,4 @@ use Rattle.names.proofs.number_loads.Given as goal
 
 abbrev pub invariant-loop-i : goal.invariant-loop-i
 invariant-loop-i l =
-    (r : Rows) → l.tables.loads ≡ kept no_load_row 300 r.loads → l.tables.count ≡ length r.loads → l.initial.loads ≡ replicate 300 no_load → l.loads ≡ kept no_load 300 (filled (load_of (take (l.tables.rows + 1) l.nodes)) [] r.loads l.i)
+    (r : Rows) → l.tables.loads ≡ kept no_load_row 300 r.loads → l.tables.count ≡ length r.loads → l.initial.loads ≡ replicate 300 no_load → l.loads ≡ kept no_load 300 (filled (load_of (take l.n l.nodes)) [] r.loads l.i)
