@@ -1,5 +1,6 @@
 -- `stages::check_currents` meets its contract: 53, 54, then 55. Assumes nothing.
 use Rattle.std.specs.Prelude.{true, Ok}
+use borrow.Author.Rules.{rules}
 use mathlib.Core.Path.{◌∙◌, ◌≡◌, refl, sym}
 use Rattle.answers.specs.Answers.{done}
 use Rattle.answers.specs.declared.Refusal.TheVariants.{CurrentDiffers, VoltageOff}
@@ -31,7 +32,8 @@ off-is : (c : After-compare_pass) (f : Feeder) (x : Reported) → Works (goal.at
 off-is c f x h =
     let a = c.args in
     let i = a.i.now in
-    off-held f x a.network.now (report_read true a.read.now) i a.drawn h (c.compare_pass.ensures f (held_in h.held) h.held.source)
+    let g = held_in h.held in
+    off-held f x a.network.now (report_read true a.read.now) i a.drawn h (c.compare_pass.ensures f (record { branches-are = g.branches-are; rows_are = g.rows_are }) h.held.source)
 
 pub returns-in-Some : goal.returns-in-Some
 unfolding from53
@@ -39,7 +41,12 @@ returns-in-Some c = λ f x h. fails-at CurrentDiffers (from54 (Ok done) f x) (sy
 
 pub compare_pass-requires : goal.compare_pass-requires
 compare_pass-requires c =
-    record { ready = ready c.requires.known; comparable = c.requires.comparable; by_index = c.requires.small_currents.branch }
+    let r = ready c.requires.known in
+    record {
+      ready = record { linked = r.linked; ordered = r.ordered; ranked = r.ranked; fine = r.fine };
+      comparable = record { first = c.requires.comparable.first; each = c.requires.comparable.each; small = search rules };
+      by_index = c.requires.small_currents.branch;
+    }
 
 pub returns-in-Some-compare_pass : goal.returns-in-Some-compare_pass
 unfolding from53 from54
