@@ -1,3 +1,4 @@
+-- Definitions
+pub mod Setting
 -- Laws
 pub mod TapRows
-pub mod Setting

@@ -1,2 +1,2 @@
-// The branches of a feeder while each row gets its taps: laws, in specs/Setting.antt.
+// The branches of a feeder while each row gets its taps: laws, in proofs/SettingLaws.antt.
 #![tactic(auto)]

@@ -1,15 +1,17 @@
 -- Tests over the rows of a report: the first branch row with a fault, and two tests that are one at every row; and what `==` says of three phases. Assumes nothing.
 use Rattle.std.specs.Prelude.{Bool, ◌&&◌, false, true, List, [], ◌∷◌, ◌≡◌, refl, ◌+◌, ◌<◌, ◌≤◌, suc, zero, ℕ, get_or, length, Some}
-use Rattle.std.proofs.Common.{ap₂, arith}
+use Rattle.std.proofs.Common.{ap, ap₂, arith, sym}
 use Rattle.feeder.specs.Feeder.{first_row}
 use Rattle.std.specs.Ordering.{int_eq}
 use Rattle.equations.specs.Equations.{at}
 use Rattle.equations.specs.Sizes.{all-of}
 use Rattle.feeder.specs.Phased.{Three}
-use Rattle.integers.specs.Bools.{and-false, same?}
+use Rattle.integers.specs.Bools.{and-false, both, joined, same?}
 use Rattle.integers.specs.Equal.{equal-pair}
 use Rattle.integers.specs.Lists.{all, count, tab}
+use Rattle.integers.specs.PairLaws.{pair_eq, same_true, true_same}
 use Rattle.integers.specs.Pairs.{same}
+use Rattle.integers.specs.declared.Pair.{Pair}
 use Rattle.compare.specs.declared.Powers.{Powers}
 use Rattle.compare.specs.Compare.{same_powers}
 use Rattle.compare.specs.Differences.{same3}
@@ -68,6 +70,19 @@ not-all p n k z h e = go 1 n (omega arith) (omega arith)
     go : (a m : ℕ) → a ≤ k → k < a + m → all p (tab (λ i. i) a m) ≡ false
     go a zero s q = absurd (omega arith)
     go a (suc m) s q = same? a k (λ w. rw (w, e)) (λ ne. rw (go (a + 1) m (omega arith) (omega arith)) (and-false (p a)))
+
+-- ---- truth values that say the same
+one_truth : (a b : Bool) → (a ≡ true → b ≡ true) → (b ≡ true → a ≡ true) → a ≡ b
+one_truth true b f g = sym (f refl)
+one_truth false true f g = g refl
+one_truth false false f g = refl
+
+-- two pairs are the same where both parts are equal
+pub same_parts : (x y : Pair) (p q : Bool) → (p ≡ true → x.re ≡ y.re) → (x.re ≡ y.re → p ≡ true) → (q ≡ true → x.im ≡ y.im) → (x.im ≡ y.im → q ≡ true) → (p && q) ≡ same x y
+same_parts x y p q a b c d =
+    one_truth (p && q) (same x y)
+    (λ e. let w = both p q e in rw (pair_eq {x = x} {y = y} (a w.0) (c w.1)) (true_same y))
+    (λ e. let z : x ≡ y = same_true e in joined (b (ap (λ (u : Pair). u.re) z)) (d (ap (λ (u : Pair). u.im) z)))
 
 -- ---- the machine's `==` on the pairs of three phases, and on the totals
 pub equal-three : (x y : Three) →

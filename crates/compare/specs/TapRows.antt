@@ -1,9 +1,10 @@
 -- Tests over the rows of a report's last table, made branch row by branch row with a count of the regulators; and taps after a move. Assumes nothing.
-use Rattle.std.specs.Prelude.{Bool, cond, false, true, ◌≡◌, refl, ℕ, Some, None}
+use Rattle.std.specs.Prelude.{Bool, ◌&&◌, cond, false, true, ◌≡◌, refl, ℕ, Option, Some, None}
 use mathlib.Core.List.{List, ◌∷◌}
 use Rattle.std.proofs.Common.{◌∙◌}
 use Prim.Native.Nat.{◌*◌, ◌+◌, ◌-◌, ◌<◌, ◌≤◌, suc, zero, ℕ}
 use native.Mathlib.Omega.{arith}
+use Rattle.equations.specs.Limits.{DeviceOk, TapsOk}
 use Rattle.equations.specs.Taps.{moved_on, moved_taps, same_taps}
 use Rattle.feeder.specs.Feeder.{first_row, no_taps, regulator_of, taps_on}
 use Rattle.feeder.specs.declared.Branch.{Branch}
@@ -11,6 +12,7 @@ use Rattle.feeder.specs.declared.Device.{Device}
 use Rattle.feeder.specs.declared.Device.TheVariants.{Line, Regulator, Transformer}
 use Rattle.feeder.specs.Phased.{Three}
 use Rattle.feeder.specs.declared.TapChanger.{TapChanger}
+use Rattle.integers.specs.Bools.{clash}
 use Rattle.integers.specs.Lists.{all, chosen, count, tab}
 use Rattle.integers.specs.Pairs.{inside}
 use Rattle.tap_table.specs.Regulators.{regulates_in, regulators_from}
@@ -41,6 +43,15 @@ module _ (bad : ℕ → ℕ → Bool) (bs : List Branch) (rows : ℕ) where
   pub tap-other : (k j : ℕ) → k ≤ rows → regulates_in bs k ≡ false → tap_scan bad bs rows k j ≡ tap_scan bad bs rows (k + 1) j
   tap-other k j h e = tap-row k j h ∙ (λ i. cond (e i) (cond (bad (j + 1) k) (Some (2 * rows + 9 + (j + 1))) (tap_scan bad bs rows (k + 1) (j + 1))) (tap_scan bad bs rows (k + 1) j))
 
+  -- both that pass on, in one
+  pub tap-next : (k j : ℕ) → k ≤ rows → (regulates_in bs k && bad (j + 1) k) ≡ false → tap_scan bad bs rows k j ≡ tap_scan bad bs rows (k + 1) (j + cond (regulates_in bs k) 1 0)
+  tap-next k j h e = tap-row k j h ∙ go (regulates_in bs k) (bad (j + 1) k) _ e
+    where
+      go : (c d : Bool) (x : Option ℕ) → (c && d) ≡ false → cond c (cond d x (tap_scan bad bs rows (k + 1) (j + 1))) (tap_scan bad bs rows (k + 1) j) ≡ tap_scan bad bs rows (k + 1) (j + cond c 1 0)
+      go true true x e = clash true refl e
+      go true false x e = refl
+      go false d x e = let z : j + 0 ≡ j = omega arith in rw z
+
   pub tap-none : (k j : ℕ) → rows < k → tap_scan bad bs rows k j ≡ None
   unfolding regulators_from count tab chosen first_row
   tap-none k j h =
@@ -65,6 +76,11 @@ same-tap-rows p q bs rows h = go (suc rows - 1) 1 0 (omega arith) (omega arith)
         one false a b = b
 
 -- ---- taps
+pub taps-ok : (d : Device) → DeviceOk d → TapsOk (taps_on d)
+taps-ok (Line z) h = record { a = omega arith; b = omega arith; c = omega arith }
+taps-ok (Regulator x) h = h.taps
+taps-ok (Transformer x) h = record { a = omega arith; b = omega arith; c = omega arith }
+
 -- a regulator's taps and those after a move; a line and a transformer have none
 module _ (b : Branch) (u i : Three) where
   pub no-taps-rest : regulator_of b.device ≡ None → same_taps (moved_on b u i) (taps_on b.device) ≡ true

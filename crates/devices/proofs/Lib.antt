@@ -1,1 +1,2 @@
 pub mod Phased
+pub mod SignRead

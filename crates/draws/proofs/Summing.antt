@@ -63,7 +63,7 @@ row-current : (v : List Three) (l : Load) → lacking v l ≡ false → large v 
 unfolding drawn_by load_current
 row-current v l p q = λ i. current_of (cond (p i) (Err ZeroVoltage) (cond (q i) (Err Beyond) (Ok (load_current v l))))
 
-row_within : (v : List Three) (l : Load) → Within 2000000 (drawn_current v l)
+pub row_within : (v : List Three) (l : Load) → Within 2000000 (drawn_current v l)
 unfolding drawn_by load_current
 row_within v l = go (lacking v l) (large v l) refl
   where

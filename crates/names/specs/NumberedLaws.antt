@@ -70,7 +70,7 @@ module _ (r : Rows) (count : ℕ) (size : count ≡ length r.branches) where
 
   module _ (few : count ≤ 200) where
     -- the names
-    take-nodes : take (count + 1) (nodes_in r) ≡ nodes_of r
+    pub take-nodes : take (count + 1) (nodes_in r) ≡ nodes_of r
     take-nodes = rw (sym length-nodes) (take-kept 0 201 (nodes_of r) (rw length-nodes (omega arith)))
 
     -- the branches from place 0 on

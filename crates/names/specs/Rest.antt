@@ -1,11 +1,13 @@
--- A list as a loop passes over it: what is left from a place on, the first line with a fault, and a name's place. Assumes nothing.
-use Rattle.std.specs.Prelude.{Bool, false, true, ◌≡◌, drop, get_or, length, take, Some, None}
-use mathlib.Core.List.{List, [], ◌∷◌, map}
-use Rattle.std.proofs.Math.Path.{refl}
-use Prim.Native.Nat.{◌+◌, ◌<◌, ◌≤◌, suc, ℕ}
+-- A list as a loop passes over it: what is left from a place on, the first line with a fault, a name's place, and rows that are changed in turn. Assumes nothing.
+use Rattle.std.specs.Prelude.{Bool, false, true, ◌≡◌, drop, get_or, length, set, take, Some, None}
+use mathlib.Core.List.{List, [], ◌++◌, ◌∷◌, map}
+use Rattle.std.proofs.Math.Decide.{ℕ_discrete}
+use Rattle.std.proofs.Math.Path.{ap, refl}
+use Prim.Native.Nat.{◌+◌, ◌<◌, ◌≤◌, suc, zero, ℕ}
 use Rattle.std.proofs.Common.{add-one, arith, drop_of_length-le, drop-cons, get_or-take, length-take, length-take-le}
 use borrow.Author.Tests.{eq-eqb, ne_eqb}
 use Rattle.feeder.specs.Feeder.{first_row, place_of}
+use Rattle.feeder.specs.Network.{kept}
 
 -- what is left of the first n from place i on
 abbrev pub rest : {X : Type 0} → ℕ → ℕ → List X → List X
@@ -53,3 +55,42 @@ module _ (name : ℕ) (l : List ℕ) (n i : ℕ) (q : n ≤ length l) where
 pub place_end : (name : ℕ) (l : List ℕ) (n i : ℕ) → n ≤ i → place_of name (rest i n l) ≡ 0
 unfolding place_of
 place_end name l n i p = rw (rest_end l n i p)
+
+-- it is one of the names' places, or the number behind the last
+pub place-within : (name : ℕ) (l : List ℕ) (n : ℕ) → place_of name (take n l) ≤ n
+unfolding place_of
+place-within name l zero = omega arith
+place-within name [] (suc n) = omega arith
+place-within name (x ∷ l) (suc n) =
+    elim (ℕ_discrete name x) [
+      | yes h ↦ rw (eq-eqb name x h) (omega arith)
+      | no h ↦ rw (ne_eqb name x h) (omega (arith, place-within name l n))
+    ]
+
+-- ---- an array of which one row after the other is changed: the first i hold the image by g, those behind them still that by h
+abbrev pub partly : {X Y : Type 0} → (X → Y) → (X → Y) → ℕ → List X → List Y
+partly g h i l = map g (take i l) ++ map h (drop i l)
+
+module _ {X Y : Type 0} (g h : X → Y) (d : Y) where
+  pub partly-all : (l : List X) → partly g h (length l) l ≡ map g l
+  partly-all [] = refl
+  partly-all (x ∷ l) = ap (λ (r : List Y). g x ∷ r) (partly-all l)
+
+  partly-at : (n : ℕ) (l : List X) (e : X) (o : Y) (i : ℕ) → i < length l → i < n → get_or (kept d n (partly g h i l)) i o ≡ h (get_or l i e)
+  unfolding kept
+  partly-at zero l e o i p q = absurd (omega arith)
+  partly-at (suc n) [] e o i p q = absurd (omega arith)
+  partly-at (suc n) (x ∷ l) e o zero p q = refl
+  partly-at (suc n) (x ∷ l) e o (suc i) p q = partly-at n l e o i (omega arith) (omega arith)
+
+  partly-set : (n : ℕ) (l : List X) (e : X) (i : ℕ) → i < length l → set (kept d n (partly g h i l)) i (g (get_or l i e)) ≡ kept d n (partly g h (suc i) l)
+  unfolding kept
+  partly-set zero l e i p = refl
+  partly-set (suc n) [] e i p = absurd (omega arith)
+  partly-set (suc n) (x ∷ l) e zero p = refl
+  partly-set (suc n) (x ∷ l) e (suc i) p = ap (λ (r : List Y). g x ∷ r) (partly-set n l e i (omega arith))
+
+  -- one more
+  pub partly-next : (change : Y → Y) (n : ℕ) (l : List X) (e : X) (o : Y) (i : ℕ) → i < length l → i < n → change (h (get_or l i e)) ≡ g (get_or l i e) →
+      set (kept d n (partly g h i l)) i (change (get_or (kept d n (partly g h i l)) i o)) ≡ kept d n (partly g h (suc i) l)
+  partly-next change n l e o i p q s = rw (partly-at n l e o i p q, s) (partly-set n l e i p)

@@ -22,6 +22,11 @@ use Rattle.radial.specs.Radial.{parent_in}
 abbrev pub below : List Branch → List Three → ℕ → Three → Three
 below branches i j u = far_voltage (get_or branches j no_branch) u (get_or i j zero3)
 
+-- what is worked in a turn, from a branch b, a voltage u and a current c that are read of the arrays
+pub below-is : (branches : List Branch) (i v : List Three) (m : ℕ) (b : Branch) (u c y : Three) → b ≡ get_or branches m no_branch → u ≡ get_or v b.from zero3 → c ≡ get_or i m zero3 →
+    y ≡ far_voltage b u c → y ≡ below branches i m (get_or v (parent_in branches m) zero3)
+below-is branches i v m b u c y eb eu ec e = e ∙ ap (λ (x : Three). far_voltage b x c) eu ∙ (λ t. far_voltage (eb t) (get_or v (eb t).from zero3) (ec t))
+
 abbrev pub Follows : List Branch → List Three → List Three → ℕ → Type 0
 Follows branches i v j = get_or v j zero3 ≡ below branches i j (get_or v (parent_in branches j) zero3)
 

@@ -4,6 +4,7 @@ use mathlib.Core.Path.{◌≡◌, refl, sym, ap, ◌∙◌}
 use native.Mathlib.Numerals.{add-one}
 use native.Mathlib.Omega.{arith}
 use Prim.Native.Nat.{◌+◌, ◌<◌, ◌≤◌, suc, zero, ℕ}
+use borrow.Author.Count.{below_more}
 use lib.ListN.{get_or, length, length-replicate, length-set, replicate, set, take}
 use lib.Seq.{get_or-set_other, get_or-set_same}
 use Rattle.feeder.specs.NetworkLaws.{get_or-blank}
@@ -120,11 +121,25 @@ module _ (bs : List Branch) (rows : ℕ) (o : Order) (i : ℕ) (p : Placed bs ro
   step-placed up =
       record { placed = place (omega arith); more = omega arith; kept = λ e. absurd (omega arith); closed = λ e. absurd (omega arith) }
 
+-- a node that has a place, or whose parent has none, is left
+pub step_left : (bs : List Branch) (rows : ℕ) (o : Order) (i : ℕ) → Placed bs rows o → (get_or o.rank i 0 ≡ 0 → get_or o.rank (parent_in bs i) 0 ≡ 0) → Stepped bs rows i o o
+step_left bs rows o i p none = record { placed = p; more = omega arith; kept = λ e. refl; closed = λ e. none }
+
 -- a pass that began with `len` nodes and is at row i: while it has placed none, no row passed was to be placed
 pub record Upto (bs : List Branch) (rows len i : ℕ) (o : Order) : Type 0 where
   pub placed : Placed bs rows o
   pub more : len ≤ o.len
   pub closed : o.len ≡ len → (k : ℕ) → k < i → 0 < k → get_or o.rank k 0 ≡ 0 → get_or o.rank (parent_in bs k) 0 ≡ 0
+
+pub row-passed : (bs : List Branch) (rows len i : ℕ) (o r : Order) → Upto bs rows len i o → Stepped bs rows i o r → Upto bs rows len (i + 1) r
+row-passed bs rows len i o r u s =
+    record {
+      placed = s.placed;
+      more = omega (arith, u.more, s.more);
+      closed = λ e.
+          let same : r.len ≡ o.len = omega (arith, u.more, s.more) in
+          rw (s.kept same) (below_more _ _ (u.closed (omega arith)) (λ p. s.closed same));
+    }
 
 -- where all are placed, none is to be placed
 pub full : {bs : List Branch} {rows : ℕ} {o : Order} → Placed bs rows o → rows < o.len → Closed (rows + 1) (parent_in bs) o.rank

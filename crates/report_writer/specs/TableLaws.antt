@@ -1,6 +1,6 @@
 -- Laws of the tables: the lines k to n one by one, and lengths. Assumes nothing.
 use Rattle.std.specs.Prelude.{Bool, cond, false, true, List, [], ◌++◌, ◌∷◌, ◌≡◌, refl, ◌+◌, ◌-◌, ◌<◌, ◌≤◌, suc, ℕ, get_or, length}
-use Rattle.std.proofs.Common.{arith, length-append}
+use Rattle.std.proofs.Common.{ap, arith, length-append}
 use Rattle.feeder.specs.Feeder.{no_branch, regulates, taps_on}
 use Rattle.feeder.specs.declared.Network.{Network}
 use Rattle.integers.specs.Lists.{count, tab}
@@ -47,6 +47,14 @@ unfolding tap_table bytes
 tap-table-length g n = omega arith
 
 -- ---- the line of a row in the last table
+pub tap-none : (n : Network) (k : ℕ) → regulates (get_or n.branches k no_branch).device ≡ false → tap_line_at n k ≡ []
+unfolding tap_line_at
+tap-none n k e = rw e refl
+
+pub tap-some : (n : Network) (k : ℕ) → regulates (get_or n.branches k no_branch).device ≡ true → tap_line_at n k ≡ tap_row (get_or n.nodes k 0) (taps_on (get_or n.branches k no_branch).device)
+unfolding tap_line_at
+tap-some n k e = ap (λ (d : Bool). cond d (tap_row (get_or n.nodes k 0) (taps_on (get_or n.branches k no_branch).device)) []) e
+
 pub tap-line-fits : (n : Network) (k : ℕ) → length (tap_line_at n k) ≤ 75
 unfolding tap_line_at
 tap-line-fits n k = go (regulates (get_or n.branches k no_branch).device)

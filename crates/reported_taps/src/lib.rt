@@ -1,4 +1,4 @@
-// The branches of a feeder with the taps that a report gives: what the check works with. The array row by row: crate branch_taps, specs/Setting.antt.
+// The branches of a feeder with the taps that a report gives: what the check works with. The array row by row: crate branch_taps, proofs/SettingLaws.antt.
 #![tactic(auto)]
 
 ghost use Rattle.std.specs.Prelude.{◌≡◌, ◌≤◌, List, length};

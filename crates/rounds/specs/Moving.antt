@@ -4,7 +4,8 @@ use Rattle.std.proofs.Math.Bool.{false, not, true}
 use Rattle.std.proofs.Common.{◌∙◌, ap, arith}
 use Rattle.std.proofs.Math.Path.{refl, sym}
 use Rattle.std.proofs.Math.Decide.{ℕ_discrete}
-use Rattle.branch_taps.specs.Setting.{Setting, array_at, set-array, setting-next, setting-start}
+use Rattle.branch_taps.proofs.SettingLaws.{array_at, set-array, setting-next, setting-start}
+use Rattle.branch_taps.specs.Setting.{Setting}
 use Rattle.equations.specs.Equations.{zero3}
 use Rattle.equations.specs.Fit.{Fit}
 use Rattle.equations.specs.Limits.{DeviceOk, TapsOk}

@@ -44,6 +44,10 @@ module _ {o : Outcome Rows} {t : Tables} where
   pub read-good : (r : Rows) → o ≡ Ok r → GoodLayout r t → LayoutRead o (Ok done) t
   read-good r e h = record { said = subst (λ (z : Outcome Rows). LayoutAs z (Ok done) t) (sym e) h }
 
+  -- of the same file, said in another way
+  pub read_as : {o-too : Outcome Rows} {u : Outcome Done} → o ≡ o-too → LayoutRead o-too u t → LayoutRead o u t
+  read_as {u = u} e h = subst (λ (z : Outcome Rows). LayoutRead z u t) (sym e) h
+
   pub laid : LayoutRead o (Ok done) t → Laid o t
   laid h = go o refl h.said
     where

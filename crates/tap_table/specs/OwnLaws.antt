@@ -36,6 +36,15 @@ chosen_last c (y ∷ l) x = go (c y) (chosen_last c l x)
     go false e = e
 
 -- ---- levels
+module _ (bs : List Branch) (k n : ℕ) where
+  pub levels-next : k ≤ n → levels_from bs k n ≡ cond (moves_taps (get_or bs k no_branch).device) true (levels_from bs (k + 1) n)
+  unfolding levels_from any count tab
+  levels-next h = let e : suc n - k ≡ suc (suc n - (k + 1)) = omega arith in rw e refl
+
+  pub levels-none : n < k → levels_from bs k n ≡ false
+  unfolding levels_from any count tab
+  levels-none h = let e : suc n - k ≡ 0 = omega arith in rw e refl
+
 pub levels-any : (bs : List Branch) (n : ℕ) → list_any (λ k. moves_taps (get_or bs k no_branch).device) (range_with_len 1 n) ≡ levels_from bs 1 n
 unfolding levels_from count
 levels-any bs n =
@@ -73,6 +82,13 @@ module _ (bs : List Branch) where
   pub before-more : (k j : ℕ) → 1 ≤ k → regulates_in bs k ≡ true → j ≡ length (regulators_before bs k) → j + 1 ≡ length (regulators_before bs (k + 1))
   before-more k j h e c = rw (before-some k h e) (omega (arith, length-append (regulators_before bs k) (k ∷ [])))
 
+  pub before-count : (k : ℕ) → 1 ≤ k → length (regulators_before bs (k + 1)) ≡ length (regulators_before bs k) + cond (regulates_in bs k) 1 0
+  before-count k h = go (regulates_in bs k) refl
+    where
+      go : (d : Bool) → regulates_in bs k ≡ d → length (regulators_before bs (k + 1)) ≡ length (regulators_before bs k) + cond d 1 0
+      go true e = ap length (before-some k h e) ∙ length-append (regulators_before bs k) (k ∷ [])
+      go false e = rw (before-none k h e) (omega arith)
+
 -- ---- the arrays of their names and taps
 -- one more in an array
 map_next : {X : Type 0} (d : X) (g : ℕ → X) (l : List ℕ) (k j : ℕ) (cells : List X) (y : X) → j ≡ length l → j < 201 → cells ≡ kept d 201 (map g l) → y ≡ g k → set cells j y ≡ kept d 201 (map g (l ++ (k ∷ [])))
@@ -91,7 +107,7 @@ module _ (nodes : List ℕ) (bs : List Branch) where
   }
 
   module _ (k j : ℕ) (names : List ℕ) (taps : List Taps) (g : OwnBefore nodes bs k j names taps) where
-    own-few : 1 ≤ k → j < k
+    pub own-few : 1 ≤ k → j < k
     own-few h = omega (arith, before-few bs k, g.counted)
 
     pub own-some : (next : List Taps) (name : ℕ) (own : Taps) → 1 ≤ k → k ≤ 200 → regulates_in bs k ≡ true → name ≡ get_or nodes k 0 → own ≡ taps_on (get_or bs k no_branch).device → next ≡ set taps j own
@@ -130,6 +146,10 @@ image-at g d (x ∷ l) zero = refl
 image-at g d (x ∷ l) (suc k) = image-at g d l k
 
 module _ (bs : List Branch) (t : List Taps) where
+  pub given_is : (k j : ℕ) (d : Bool) (x : Taps) → d ≡ regulates_in bs k → j ≡ length (regulators_before bs k) → x ≡ cond d (get_or t j no_taps) no_taps → x ≡ given_at bs t k
+  unfolding given_at
+  given_is k j d x e c h = h ∙ (λ i. cond (e i) (get_or t (c i) no_taps) no_taps)
+
   given-some : (k j : ℕ) → regulates_in bs k ≡ true → j ≡ length (regulators_before bs k) → get_or t j no_taps ≡ given_at bs t k
   unfolding given_at
   given-some k j e c = rw (e, c) refl
@@ -138,7 +158,7 @@ module _ (bs : List Branch) (t : List Taps) where
   unfolding given_at
   given-none k e = rw e refl
 
-  fits_next : (k n : ℕ) → k ≤ n → fits_from bs t k n ≡ (taps_fit (get_or bs k no_branch).phases (given_at bs t k) && fits_from bs t (k + 1) n)
+  pub fits_next : (k n : ℕ) → k ≤ n → fits_from bs t k n ≡ (taps_fit (get_or bs k no_branch).phases (given_at bs t k) && fits_from bs t (k + 1) n)
   unfolding fits_from all count tab
   fits_next k n h = let e : suc n - k ≡ suc (suc n - (k + 1)) = omega arith in rw e refl
 
@@ -157,6 +177,16 @@ module _ (bs : List Branch) (t : List Taps) where
   pub given-start : (taps : List Taps) → taps ≡ replicate 201 no_taps → taps ≡ given_taps bs t 0
   unfolding given_taps tab kept
   given-start taps e = e ∙ blank-kept no_taps 201
+
+  pub given-next : (k : ℕ) (taps next : List Taps) (x : Taps) → 1 ≤ k → k ≤ 200 → taps ≡ given_taps bs t (k - 1) → x ≡ given_at bs t k → next ≡ set taps k x → next ≡ given_taps bs t (k + 1 - 1)
+  unfolding given_taps
+  given-next k taps next x h q e f g =
+      let u = tab (given_at bs t) 1 (k - 1) in
+      let z : length (no_taps ∷ u) ≡ k = omega (arith, length-tab (given_at bs t) 1 (k - 1)) in
+      let a : k + 1 - 1 ≡ suc (k - 1) = omega arith in
+      let b : 1 + (k - 1) ≡ k = omega arith in
+      g ∙ (λ i. set (e i) (sym z i) (f i)) ∙ kept_next no_taps 201 (no_taps ∷ u) (given_at bs t k) (omega arith)
+      ∙ rw (a, tab-last (given_at bs t) 1 (k - 1), b) refl
 
   -- those up to row k are those in front of it, and its own
   given-last : (k : ℕ) → 1 ≤ k → given_taps bs t (k + 1 - 1) ≡ kept no_taps 201 ((no_taps ∷ tab (given_at bs t) 1 (k - 1)) ++ (given_at bs t k ∷ []))

@@ -1,5 +1,5 @@
 -- The regulators among the rows of an array of branches, and taps that a report may have. Assumes nothing.
-use Rattle.std.specs.Prelude.{Bool, ◌&&◌, ◌||◌, cond, false, true, List, [], ◌∷◌, ◌≡◌, refl, ◌+◌, ◌-◌, ◌≤◌, suc, zero, ℕ, pos, ℤ, get_or, length}
+use Rattle.std.specs.Prelude.{Bool, ◌&&◌, ◌||◌, cond, false, true, List, [], ◌∷◌, ◌≡◌, refl, ◌+◌, ◌-◌, ◌<◌, ◌≤◌, suc, zero, ℕ, pos, ℤ, get_or, length}
 use Rattle.std.proofs.Math.Bool.{and-true}
 use Rattle.std.proofs.Common.{◌∙◌, ap, arith}
 use Rattle.std.specs.List.{filter, list_any, range_with_len}
@@ -20,6 +20,26 @@ regulates_in bs k = regulates (get_or bs k no_branch).device
 
 unfoldable pub regulators_from : List Branch → ℕ → ℕ → List ℕ
 regulators_from bs k n = chosen (regulates_in bs) (count k (suc n - k))
+
+pub one_more : (bs : List Branch) (k n : ℕ) → k ≤ n → length (regulators_from bs k n) ≡ cond (regulates_in bs k) 1 0 + length (regulators_from bs (k + 1) n)
+unfolding regulators_from count tab chosen
+one_more bs k n h =
+    let e : suc n - k ≡ suc (suc n - (k + 1)) = omega arith in
+    rw e (go (regulates_in bs k))
+  where
+    go : (d : Bool) → length (cond d (k ∷ chosen (regulates_in bs) (tab (λ i. i) (k + 1) (suc n - (k + 1)))) (chosen (regulates_in bs) (tab (λ i. i) (k + 1) (suc n - (k + 1))))) ≡ cond d 1 0 + length (chosen (regulates_in bs) (tab (λ i. i) (k + 1) (suc n - (k + 1))))
+    go true = omega arith
+    go false = omega arith
+
+pub none_more : (bs : List Branch) (k n : ℕ) → n < k → length (regulators_from bs k n) ≡ 0
+unfolding regulators_from count tab chosen
+none_more bs k n h =
+    let e : suc n - k ≡ 0 = omega arith in
+    rw e
+
+pub one-most : (d : Bool) → cond d 1 0 ≤ 1
+one-most true = omega arith
+one-most false = omega arith
 
 -- ---- the library's words for a run of numbers, for those of it that a test chooses, and for whether it chooses one
 pub numbers-from : (a n : ℕ) → range_with_len a n ≡ tab (λ (i : ℕ). i) a n

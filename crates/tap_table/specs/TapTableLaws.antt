@@ -70,11 +70,11 @@ module _ (s : List ℕ) (count : ℕ) where
       all_read : count ≤ k → rows_just count 1 3 s 21 ≡ Ok (g.list, at)
       all_read h = let z : count - k ≡ 0 = omega arith in g.whole ∙ simp z (just-none 1 3 s at g.list)
 
-      taps-more : count ≤ k → (at ≡ length s → ⊥) → tap_table count s ≡ Err ReportLayout
+      pub taps-more : count ≤ k → (at ≡ length s → ⊥) → tap_table count s ≡ Err ReportLayout
       unfolding tap_table
       taps-more h b = rw (starts, all_read h, ne_eqb at (length s) b)
 
-      taps-whole : count ≤ k → at ≡ length s → TapsHeld (tap_table count s) count names taps
+      pub taps-whole : count ≤ k → at ≡ length s → TapsHeld (tap_table count s) count names taps
       unfolding tap_table
       taps-whole h b = record {
         list = g.list;

@@ -1,5 +1,5 @@
 -- Texts written into a buffer: one behind the other, byte by byte from either end, and into a lent rest of it. Assumes nothing.
-use Rattle.std.specs.Prelude.{◌≡◌, refl, List, [], ◌∷◌, ◌++◌, ℕ, zero, suc, ◌+◌, ◌-◌, ◌≤◌, length, set, take, drop}
+use Rattle.std.specs.Prelude.{◌≡◌, refl, List, [], ◌∷◌, ◌++◌, ℕ, zero, suc, ◌+◌, ◌-◌, ◌≤◌, ◌<◌, length, get_or, set, take, drop}
 use Rattle.std.proofs.Common.{sym, ap, ◌∙◌, append-nil, arith, add-zero, add_assoc, not-suc-le-zero, le_of_suc-le-suc, length-append, length-set, length-drop, drop_of_length-le, take_all}
 use Rattle.std.proofs.lemmas.List.Edits.{sets, sets-eq}
 use Rattle.std.proofs.lemmas.List.{set_comm}
@@ -7,7 +7,7 @@ use Rattle.std.proofs.lemmas.Slice.{put_mid-paste}
 use Rattle.std.proofs.Math.Seq.{length-sets}
 use borrow.Rule.Slice.PartMut.{mid_of, put_mid}
 use Rattle.text.specs.Promises.{Written}
-use Rattle.text.specs.TextLaws.{part-from}
+use Rattle.text.specs.TextLaws.{drop-next, part-from}
 
 -- two texts, one behind the other, are one
 pub sets-append : (l : List ℕ) (i : ℕ) (vs ws : List ℕ) → sets l i (vs ++ ws) ≡ sets (sets l i vs) (i + length vs) ws
@@ -39,6 +39,12 @@ written-copied {out} {at} {vs} {l} h e = record {
   next = refl;
   holds = put_mid-paste at (at + length vs - at) out l vs (length vs) e (omega arith) refl ∙ simp (take_all (length vs) vs (omega arith)) (sym (sets-eq vs out at h));
 }
+
+-- the k-th byte of a text, and then the rest
+pub sets-next : (l : List ℕ) (i : ℕ) (vs : List ℕ) (k : ℕ) → k < length vs → sets l (i + k) (drop k vs) ≡ sets (set l (i + k) (get_or vs k 0)) (i + (k + 1)) (drop (k + 1) vs)
+sets-next l i vs k h =
+    let e : i + (k + 1) ≡ suc (i + k) = omega arith in
+    simp (drop-next vs k h, e)
 
 -- the last byte of a text, and then those in front of it
 sets_last : (l : List ℕ) (i : ℕ) (vs : List ℕ) (x : ℕ) → sets l i (vs ++ (x ∷ [])) ≡ sets (set l (i + length vs) x) i vs

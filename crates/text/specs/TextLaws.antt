@@ -1,7 +1,7 @@
 -- How the definitions of Text go on: a reading with the byte at its place and at the end of the text, a writing with the last digit or letter.
 -- Assumes nothing.
 use Rattle.std.specs.Prelude.{◌≡◌, refl, Bool, true, false, cond, ◌&&◌, List, [], ◌∷◌, ◌++◌, ℕ, zero, suc, ◌+◌, ◌-◌, ◌*◌, ◌/◌, ◌%◌, ◌^◌, ◌≤◌, ◌<◌, min, ltb, eqb, ℤ, pos, negsuc, nat_abs, length, get_or, set, take, drop, Option, Some, None}
-use Rattle.std.proofs.Common.{sym, ap, ◌∙◌, arith, add-one, not-suc-le-zero, mod-eq_of_lt, pow-suc, drop_of_length-le, length-append, length-drop, drop-cons, take_all, take-suc-set, lt-ltb, le-ltb, ne_eqb}
+use Rattle.std.proofs.Common.{sym, ap, ◌∙◌, arith, add-one, not-suc-le-zero, mod-eq_of_lt, pow-suc, drop_of_length-le, length-append, length-drop, drop-cons, take_all, take-suc-set, lt-ltb, le-ltb, eq-eqb, ne_eqb}
 use Rattle.std.proofs.Math.Decide.{dec_lt}
 use Rattle.std.proofs.lemmas.List.{drop_min}
 use Rattle.std.specs.Int.Signed.{lt_z}
@@ -61,6 +61,27 @@ name-at sep s i v h = rw (drop-next s i h)
 pub name-end : (sep : ℕ) (s : List ℕ) (i v : ℕ) → length s ≤ i → name sep (drop i s) i v ≡ None
 unfolding name
 name-end sep s i v h = rw (drop_of_length-le s h)
+
+pub begins-at : (w s : List ℕ) (k i : ℕ) → k < length w → i < length s →
+    begins (drop k w) (drop i s) ≡ (eqb (get_or w k 0) (get_or s i 0) && begins (drop (k + 1) w) (drop (i + 1) s))
+unfolding begins
+begins-at w s k i h g = rw (drop-next w k h, drop-next s i g)
+
+-- what that comes to where the two bytes are one, and where they are not
+pub begins-same : (w s : List ℕ) (k i : ℕ) → k < length w → i < length s → get_or w k 0 ≡ get_or s i 0 →
+    begins (drop k w) (drop i s) ≡ begins (drop (k + 1) w) (drop (i + 1) s)
+begins-same w s k i h g e = begins-at w s k i h g ∙ simp (eq-eqb _ _ e)
+
+pub begins-differs : (w s : List ℕ) (k i : ℕ) → k < length w → i < length s → (get_or w k 0 ≡ get_or s i 0 → ⊥) → begins (drop k w) (drop i s) ≡ false
+begins-differs w s k i h g e = begins-at w s k i h g ∙ simp (ne_eqb _ _ e)
+
+pub begins-short : (w s : List ℕ) (k i : ℕ) → k < length w → length s ≤ i → begins (drop k w) (drop i s) ≡ false
+unfolding begins
+begins-short w s k i h g = rw (drop-next w k h, drop_of_length-le s g)
+
+pub begins-end : (w s : List ℕ) (k : ℕ) → length w ≤ k → begins (drop k w) s ≡ true
+unfolding begins
+begins-end w s k h = rw (drop_of_length-le w h)
 
 -- the library's test for a word at the start of a text
 begins-starts : (w s : List ℕ) → starts_with eqb s w ≡ begins w s

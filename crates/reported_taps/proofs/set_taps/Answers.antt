@@ -6,7 +6,8 @@ use lib.ListN.{get_or, set}
 use Rattle.feeder.specs.Feeder.{no_taps}
 use Rattle.feeder.specs.NetworkLaws.{get_or_kept}
 use Rattle.feeder.specs.Phased.{Taps}
-use Rattle.branch_taps.specs.Setting.{Setting, set-array, setting-next, setting-start}
+use Rattle.branch_taps.proofs.SettingLaws.{set-array, setting-next, setting-start}
+use Rattle.branch_taps.specs.Setting.{Setting}
 use native.Mathlib.Omega.{arith}
 use Rattle.reported_taps.proofs.set_taps.Invariants.{given}
 use Rattle.reported_taps.proofs.set_taps.Goals as goal

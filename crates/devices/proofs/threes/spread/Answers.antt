@@ -1,24 +1,16 @@
 -- `threes::spread` meets its contract: signs of size at most 1 leave room for each product. Assumes nothing.
-use Prim.Native.Nat.{◌^◌, ◌≤◌}
-use lib.IntN.{nat_abs, ℤ}
-use mir.Facts.{to_z-of_z}
 use mir.Syntax.{w64}
 use mir.Val.{SFits}
 use borrow.Author.Rules.{rules, sfits_of}
 use Rattle.equations.specs.Equations.{sign_at}
-use Rattle.integers.specs.Machine.{read}
-use Rattle.integers.specs.PairLaws.{Within, within_more, within-scaled}
 use Rattle.integers.specs.Pairs.{scaled}
-use Rattle.integers.specs.declared.Pair.{Pair}
 use Rattle.devices.proofs.Phased.{each-of}
+use Rattle.devices.proofs.SignRead.{leaves}
 use Rattle.devices.proofs.threes.spread.Goals as goal
 use Rattle.devices.proofs.threes.spread.Goals.{Start}
 
 fits : (s : Start) → SFits w64 s.args.s.a × SFits w64 s.args.s.b × SFits w64 s.args.s.c
 fits s = search sfits_of
-
-leaves : (k : ℤ) {x : Pair} → SFits w64 k → nat_abs k ≤ 1 → Within 2100000 x → Within (2 ^ 61) (scaled (read k) x)
-leaves k f l h = rw (to_z-of_z f) (within_more (within-scaled k l h) tt)
 
 pub map-requires-clause-a : goal.map-requires-clause-a
 map-requires-clause-a c = λ κs p e r u v. leaves c.args.s.a (fits (goal.at.map-requires-clause-a c).Start).0 c.requires.signs_ok.a c.requires.within

@@ -1,0 +1,2 @@
+-- Laws, which rest on the definitions of specs/
+pub mod SettingLaws
