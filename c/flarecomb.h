@@ -20,7 +20,8 @@
  *
  * WHAT A CALLER GETS. Both calls end. They read and write nothing but the bytes that are handed over, keep no pointer, ask for no memory and have
  * no state, so that threads may call them at the same time, each with an `out` of its own. A study took at most 97 KB of stack and a check 134 KB, on
- * 5,369 feeders, some with 200 branches among them: that is measured, and not proved. What is proved of the calls, and what must be believed, is said in docs/PROOF.md.
+ * 5,369 files, 1,012 of them feeders with a report, some with 200 branches: that is measured, and not proved. What is proved of the calls, and what
+ * must be believed, is said in docs/PROOF.md.
  */
 #ifndef FLARECOMB_H
 #define FLARECOMB_H
