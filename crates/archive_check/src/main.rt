@@ -3,17 +3,17 @@
 #![tactic(auto)]
 
 use check_answer::put_check_answer;
-use programs::{print_answer, read_argument};
+use programs::{print_answer, read_whole_argument};
 
 fn main(rt: HostRuntime) {
     let mut feeder = [0u8; 65537];
     let mut report = [0u8; 65537];
     let mut out = [0u8; 4096];
     let usage = b"usage: archive_check FEEDER REPORT";
-    let Some(feeder_input) = read_argument(&rt, 1, usage, &mut feeder) else {
+    let Some(feeder_input) = read_whole_argument(&rt, 1, usage, &mut feeder) else {
         return;
     };
-    let Some(report_input) = read_argument(&rt, 2, usage, &mut report) else {
+    let Some(report_input) = read_whole_argument(&rt, 2, usage, &mut report) else {
         return;
     };
     let length = put_check_answer(

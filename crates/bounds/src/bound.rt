@@ -18,10 +18,10 @@
 // Where these sweeps settle, no report that follows documents 01 and 02 is further off: what a report is off by is at most one more sweep of itself. Where they
 // do not, as near a collapse of the voltage, there is no bound.
 use arrays::Threes;
-use feeder::{Load, LoadKind, PerPhase, Terminals, Three};
+use feeder::{Load, LoadKind, Network, PerPhase, Terminals, Three};
 use floats::component::{Quantity, rounding};
 use floats::phasor::{Phasor, PhasorRows, Phasors, Solution, ZERO, no_rows, real, root};
-use floats::solver::{Feeder, low, on_phases, place, sweep, voltage_across};
+use floats::solver::{Feeder, low, on_phases, place, sweep_feeder, voltage_across};
 use std::ops::Add;
 
 // What the currents at constant power and as an impedance differ by, at a voltage of length x.
@@ -101,7 +101,7 @@ fn drawn_bounds(
 // The bounds on the voltages at each node in cV and on the currents of each branch in mA, from the voltages in floats and the reported ones, if 1,000 sweeps are
 // enough. They stand in re, and are 0 before the first sweep. The source is not off. The answer is what is added to the bounds on the voltages for the last
 // sweep's movement.
-pub fn bounds_on(
+pub fn bounds_on_feeder(
     feeder: Feeder<'_>,
     solved: &PhasorRows,
     reported: &Threes,
@@ -112,9 +112,19 @@ pub fn bounds_on(
     bounds.voltages = no_rows();
     for _ in 0..1000 {
         drawn_bounds(feeder, solved, reported, moved, bounds);
-        if sweep(feeder, Quantity::Bound, none, bounds) {
+        if sweep_feeder(feeder, Quantity::Bound, none, bounds) {
             return Some(moved);
         }
     }
     None
+}
+
+// The bounds for a feeder in memory.
+pub fn bounds_on(
+    network: &Network,
+    solved: &PhasorRows,
+    reported: &Threes,
+    bounds: &mut Solution,
+) -> Option<f64> {
+    bounds_on_feeder(Feeder::of(network), solved, reported, bounds)
 }

@@ -3,3 +3,5 @@
 
 pub mod bound;
 pub mod compare;
+#[cfg(test)]
+mod tests;

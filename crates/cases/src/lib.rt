@@ -7,7 +7,7 @@ ghost use Rattle.std.specs.Iterator.{at_most};
 
 use archive::unpack;
 use integers::whole;
-use programs::{read_whole, told};
+use programs::{or_told, read_whole};
 use std::fs::Files;
 use std::{fs, io, str};
 use text::Placed;
@@ -31,7 +31,7 @@ pub fn read_cases(rt: &(impl Files + Eprint), name: &[u8], text: &mut [u8]) -> u
         let _ = eprintln!(rt; "a file's name is not UTF-8");
         return 0;
     };
-    told(rt, name, unpack_file(rt, name, text)).unwrap_or(0)
+    or_told(rt, name, unpack_file(rt, name, text)).unwrap_or(0)
 }
 
 // The number at a place, and the place behind its separator, which lies further on, or is the text's end. Where no number stands, that is 0 and the text's end.

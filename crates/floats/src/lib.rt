@@ -5,3 +5,5 @@
 pub mod component;
 pub mod phasor;
 pub mod solver;
+#[cfg(test)]
+mod tests;

@@ -1,9 +1,9 @@
 // The solution of a feeder in floats, with no rounding: sweeps of currents upward and voltages downward until the voltages stand still.
-ghost use Rattle.std.specs.Prelude.{◌<◌};
+ghost use Rattle.std.specs.Prelude.{◌<◌, ◌≡◌, drop, take};
 
 use crate::component::{Quantity, far_voltages, near_currents};
 use crate::phasor::{Phasor, PhasorRows, Phasors, Solution, ZERO, no_rows, real};
-use feeder::{Branch, Load, LoadKind, PerPhase, Terminals, Three};
+use feeder::{Branch, Load, LoadKind, Network, PerPhase, Terminals, Three};
 use std::ops::Add;
 
 // What the floats are given of a feeder: the load rows, and the nodes in the order of work. Nothing is asked of it: a number that is no node's is cut (`place`).
@@ -14,6 +14,25 @@ pub struct Feeder<'a> {
     pub branches: &'a [Branch; 201],
     pub loads: &'a [Load],
     pub order: &'a [usize],
+}
+
+impl Feeder<'_> {
+    // What the floats are given of a feeder in memory: of its load rows and of its order of work, those that it has.
+    pub fn of(network: &Network) -> Feeder<'_>
+        ensures source { result.source ≡ network.now.source }
+        ensures tol { result.tol ≡ network.now.tol }
+        ensures branches { result.branches.now ≡ network.now.branches }
+        ensures loads { result.loads.now ≡ take network.now.count network.now.loads }
+        ensures order { result.order.now ≡ take network.now.rows (drop 1 network.now.order) }
+    {
+        Feeder {
+            source: network.source,
+            tol: network.tol,
+            branches: &network.branches,
+            loads: &network.loads[..network.count],
+            order: &network.order[1..network.rows + 1],
+        }
+    }
 }
 
 // A node's number, which is at most 200 in every feeder.
@@ -120,7 +139,12 @@ fn all_still(rows: usize, v: &PhasorRows, w: &PhasorRows) -> bool {
 }
 
 // One sweep, from what the loads draw at each node, which the currents hold: the currents there, the voltages to which they lead, and whether these stand still.
-pub fn sweep(feeder: Feeder<'_>, quantity: Quantity, source: Phasors, s: &mut Solution) -> bool {
+pub fn sweep_feeder(
+    feeder: Feeder<'_>,
+    quantity: Quantity,
+    source: Phasors,
+    s: &mut Solution,
+) -> bool {
     let mut w = no_rows();
     upward(feeder, quantity, &mut s.currents);
     downward(feeder, quantity, source, &s.currents, &mut w);
@@ -129,15 +153,25 @@ pub fn sweep(feeder: Feeder<'_>, quantity: Quantity, source: Phasors, s: &mut So
     settled
 }
 
+// One sweep of a feeder in memory.
+pub fn sweep(network: &Network, quantity: Quantity, source: Phasors, s: &mut Solution) -> bool {
+    sweep_feeder(Feeder::of(network), quantity, source, s)
+}
+
 // The solution, if 1,000 sweeps are enough. The answer is the number of sweeps. Regulators have the taps that the branches hold.
-pub fn solve(feeder: Feeder<'_>, s: &mut Solution) -> Option<usize> {
+pub fn solve_feeder(feeder: Feeder<'_>, s: &mut Solution) -> Option<usize> {
     let source = feeder.source.map(Phasor::from);
     downward(feeder, Quantity::Value, source, &no_rows(), &mut s.voltages);
     for sweeps in 1..1001 {
         drawn(feeder, s);
-        if sweep(feeder, Quantity::Value, source, s) {
+        if sweep_feeder(feeder, Quantity::Value, source, s) {
             return Some(sweeps);
         }
     }
     None
+}
+
+// The solution of a feeder in memory.
+pub fn solve(network: &Network, s: &mut Solution) -> Option<usize> {
+    solve_feeder(Feeder::of(network), s)
 }

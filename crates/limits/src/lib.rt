@@ -207,7 +207,7 @@ pub fn first_branch_out(tables: &Tables) -> Option<usize>
 }
 
 // 11 in the load table, whose row k stands in line `before` + k; 300 rows.
-pub fn first_load_out(tables: &Tables, before: usize) -> Option<usize>
+pub fn first_load_out_behind(tables: &Tables, before: usize) -> Option<usize>
     requires count_bound { tables.now.count ≤ 65536 }
     requires before_bound { before ≤ 65542 }
     ensures { (ls : List LoadRow) → tables.now.loads ≡ kept no_load_row 300 ls → tables.now.count ≡ length ls → result ≡ first_row load_out before 1 ls }
@@ -224,6 +224,16 @@ pub fn first_load_out(tables: &Tables, before: usize) -> Option<usize>
     None
 }
 
+// 11 in the load table behind the branch table of the same file; 300 rows.
+pub fn first_load_out(tables: &Tables) -> Option<usize>
+    requires rows_bound { tables.now.rows ≤ 65536 }
+    requires count_bound { tables.now.count ≤ 65536 }
+    ensures { (ls : List LoadRow) → tables.now.loads ≡ kept no_load_row 300 ls → tables.now.count ≡ length ls → result ≡ first_row load_out (tables.now.rows + 6) 1 ls }
+{
+    let before = tables.rows + 6;
+    first_load_out_behind(tables, before)
+}
+
 // 11 of the source's row, of the branches, of the loads.
 pub fn first_out(tables: &Tables) -> Option<usize>
     requires rows_bound { tables.now.rows ≤ 65536 }
@@ -236,7 +246,7 @@ pub fn first_out(tables: &Tables) -> Option<usize>
     if let Some(line) = first_branch_out(tables) {
         return Some(line);
     }
-    first_load_out(tables, tables.rows + 6)
+    first_load_out_behind(tables, tables.rows + 6)
 }
 
 // 24: the first line with a number that is not 0 where 0 is due.
@@ -251,3 +261,6 @@ pub fn first_not_zero(tables: &Tables) -> Option<usize>
     }
     None
 }
+
+#[cfg(test)]
+mod tests;

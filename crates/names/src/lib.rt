@@ -103,7 +103,7 @@ pub fn number_branches(
 }
 
 // The loads, each with the number of its node among the first n.
-pub fn number_loads(
+pub fn number_loads_among(
     tables: &Tables,
     nodes: &[u64; 201],
     n: usize,
@@ -127,3 +127,21 @@ pub fn number_loads(
         };
     }
 }
+
+// The loads, each with the number of its node among the source and the nodes of the branch rows.
+pub fn number_loads(
+    tables: &Tables,
+    nodes: &[u64; 201],
+    slots: &[u8; 4093],
+    loads: &mut [Load; 300],
+)
+    requires rows_bound { tables.now.rows ≤ 200 }
+    requires count_bound { tables.now.count ≤ 300 }
+    requires slotted { Slotted nodes.now slots.now }
+    ensures { (r : Rows) → tables.now.loads ≡ kept no_load_row 300 r.loads → tables.now.count ≡ length r.loads → loads.old ≡ replicate 300 no_load → loads.new ≡ kept no_load 300 (map (load_of (take (tables.now.rows + 1) nodes.now)) r.loads) }
+{
+    number_loads_among(tables, nodes, tables.rows + 1, slots, loads);
+}
+
+#[cfg(test)]
+mod tests;

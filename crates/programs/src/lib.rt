@@ -42,10 +42,17 @@ fn tell(rt: &impl Eprint, what: &str, why: Error) {
 }
 
 // What was read. A failure is named as that of `what`.
-pub fn told<T>(rt: &impl Eprint, what: &str, read: io::Result<T>) -> Option<T>
+pub fn or_told<T>(rt: &impl Eprint, what: &str, read: io::Result<T>) -> Option<T>
     ensures { result ≡ result_ok read }
 {
     read.map_err(|why| tell(rt, what, why)).ok()
+}
+
+// How many bytes were read. A failure is named as that of `what`.
+pub fn told(rt: &impl Eprint, what: &str, read: io::Result<usize>) -> Option<usize>
+    ensures { result ≡ result_ok read }
+{
+    or_told(rt, what, read)
 }
 
 // What a reader has, to its end: the whole of it, or as much as the room holds.
@@ -80,14 +87,22 @@ fn read_room<R: Read>(reader: &mut R, file: &mut [u8]) -> io::Result<Input>
     }
 }
 
-// Standard input.
-pub fn read_input(rt: &(impl io::Input + Eprint), file: &mut [u8]) -> Option<Input>
+// Standard input, and why the reading stopped.
+pub fn read_whole_input(rt: &(impl io::Input + Eprint), file: &mut [u8]) -> Option<Input>
     requires { length file.old ≡ 65537 }
     ensures whole { IfSome result WholeOrMore }
     ensures part { IfSome result (λ x. IsPrefixLen (size_of x) file.new) }
 {
     let mut reader = rt.reader();
-    told(rt, "standard input", read_room(&mut reader, file))
+    or_told(rt, "standard input", read_room(&mut reader, file))
+}
+
+// Standard input: the answer is how many bytes were read.
+pub fn read_input(rt: &(impl io::Input + Eprint), file: &mut [u8]) -> Option<usize>
+    requires { length file.old ≡ 65537 }
+    ensures { IfSome result (λ n. IsPrefixLen n file.new) }
+{
+    read_whole_input(rt, file).map(Input::size)
 }
 
 // The file of a path.
@@ -105,8 +120,8 @@ fn words_of(bytes: &[u8]) -> &str {
     str::from_utf8(bytes).unwrap_or("words that are not UTF-8")
 }
 
-// The file that an argument names. Where there is no such argument, the usage is told.
-pub fn read_argument(
+// The file that an argument names, and why the reading stopped. Where there is no such argument, the usage is told.
+pub fn read_whole_argument(
     rt: &(impl Env + Files + Eprint),
     index: usize,
     usage: &[u8],
@@ -119,13 +134,26 @@ pub fn read_argument(
     let mut path = [0u8; 4096];
     let Ok(length) = rt.arg(index, &mut path) else {
         let why = Error::from(ErrorKind::InvalidInput);
-        return told(rt, words_of(usage), Err(why));
+        return or_told(rt, words_of(usage), Err(why));
     };
     let Ok(name) = str::from_utf8(&path[..length]) else {
         let why = Error::from(ErrorKind::InvalidFilename);
-        return told(rt, "a file's name", Err(why));
+        return or_told(rt, "a file's name", Err(why));
     };
-    told(rt, name, read_file(rt, name, file))
+    or_told(rt, name, read_file(rt, name, file))
+}
+
+// The file that an argument names: the answer is how many bytes were read. Where there is no such argument, the usage is told.
+pub fn read_argument(
+    rt: &(impl Env + Files + Eprint),
+    index: usize,
+    usage: &[u8],
+    file: &mut [u8],
+) -> Option<usize>
+    requires { length file.old ≡ 65537 }
+    ensures { IfSome result (λ n. IsPrefixLen n file.new) }
+{
+    read_whole_argument(rt, index, usage, file).map(Input::size)
 }
 
 // What these three print stands in a buffer, since nothing is on the heap, and each byte of an answer is promised by the crate that put it there. It goes out
@@ -156,3 +184,6 @@ pub fn used(size: usize, buffer: &[u8]) -> usize
 {
     size.min(buffer.len())
 }
+
+#[cfg(test)]
+mod tests;

@@ -14,7 +14,7 @@ use feeder::{Network, Tables, three_at};
 use integers::whole;
 use limits::{first_not_zero, first_out};
 use names::faults::{first_phase_absent, first_second_to, first_unknown_from};
-use names::{name_nodes, number_branches, number_loads, slots_of};
+use names::{name_nodes, number_branches, number_loads_among, slots_of};
 use radial::{first_not_reached, order_of};
 use tables::read_layout;
 
@@ -65,7 +65,7 @@ fn read_names(tables: &Tables, network: &mut Network) -> Result<(), Refusal>
     name_nodes(tables, &mut network.nodes);
     let slots = slots_of(&network.nodes, tables.rows + 1);
     number_branches(tables, &network.nodes, &slots, &mut network.branches);
-    number_loads(
+    number_loads_among(
         tables,
         &network.nodes,
         tables.rows + 1,

@@ -7,12 +7,12 @@
 ghost use Rattle.std.specs.Prelude.{◌≤◌, length};
 
 use answers::Refusal;
-use bounds::bound::bounds_on;
+use bounds::bound::bounds_on_feeder;
 use bounds::compare::{Compared, compare};
 use cases::{Case, Cases, read_cases, text_space};
 use feeder::Network;
 use floats::phasor::Solution;
-use floats::solver::{Feeder, solve};
+use floats::solver::{Feeder, solve_feeder};
 use ladder::{Written, study_feeder};
 use programs::{print, print_refusal, used};
 use reading::read_into;
@@ -53,27 +53,16 @@ fn print_both(rt: &impl Print, voltages: Compared, currents: Compared) {
     print(rt, b"\n");
 }
 
-// What the floats are given of a feeder in memory: of its load rows and of its order of work, those that it has.
-fn given_to_floats(network: &Network) -> Feeder<'_> {
-    Feeder {
-        source: network.source,
-        tol: network.tol,
-        branches: &network.branches,
-        loads: &network.loads[..network.count],
-        order: &network.order[1..network.rows + 1],
-    }
-}
-
 // The line of a feeder with a report, behind its name. The branches hold the reported taps.
 fn try_report(rt: &impl Print, network: &Network, report: &ReportArrays) {
-    let feeder = given_to_floats(network);
+    let feeder = Feeder::of(network);
     let mut solved = Solution::zero();
-    if solve(feeder, &mut solved).is_none() {
+    if solve_feeder(feeder, &mut solved).is_none() {
         print(rt, b" OVER: the floats do not settle\n");
         return;
     }
     let mut bounds = Solution::zero();
-    let bounded = bounds_on(feeder, &solved.voltages, &report.voltages, &mut bounds);
+    let bounded = bounds_on_feeder(feeder, &solved.voltages, &report.voltages, &mut bounds);
     let Some(moved) = bounded else {
         print(rt, b" OVER: there is no bound\n");
         return;
@@ -108,7 +97,7 @@ fn print_sweeps(rt: &impl Print, limit: usize, sweeps: usize) {
 // The line of a feeder that the study leaves unsettled (34), behind its name. The floats have the taps of the first round, so it is for feeders that have no
 // level above 0.
 fn try_unsettled(rt: &impl Print, network: &Network) {
-    match solve(given_to_floats(network), &mut Solution::zero()) {
+    match solve_feeder(Feeder::of(network), &mut Solution::zero()) {
         Some(sweeps) => print_sweeps(rt, network.limit, sweeps),
         None => {
             print(rt, b" is not settled (34), nor are the floats\n");

@@ -19,4 +19,4 @@ pub returns-in-Some : goal.returns-in-Some
 returns-in-Some c = λ r t. out-branch r _ (tested (goal.at.returns-in-Some c).After-source_in r t _ c.if-not-source_in.false) (sym (c.in-Some.ensures r t.branches t.rows))
 
 pub returns : goal.returns
-returns c = λ r t. out-load r _ (tested (goal.at.returns c).After-source_in r t _ c.if-not-source_in.false) (sym (c.in_default.ensures r t.branches t.rows)) (rw t.rows at (c.first_load_out.ensures r.loads t.loads t.count))
+returns c = λ r t. out-load r _ (tested (goal.at.returns c).After-source_in r t _ c.if-not-source_in.false) (sym (c.in_default.ensures r t.branches t.rows)) (rw t.rows at (c.first_load_out_behind.ensures r.loads t.loads t.count))

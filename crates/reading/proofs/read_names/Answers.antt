@@ -64,5 +64,5 @@ returns c = λ r t.
       nodes = names;
       branches = numbered p r t;
       count = t.count;
-      loads = loads-are t c.requires.stored.few-rows names (c.number_loads.ensures r t.loads t.count c.requires.loads_value);
+      loads = loads-are t c.requires.stored.few-rows names (c.number_loads_among.ensures r t.loads t.count c.requires.loads_value);
     })))

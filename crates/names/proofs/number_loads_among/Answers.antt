@@ -1,4 +1,4 @@
--- `number_loads` meets its contract: the loads of the rows that passed stand in the array. Assumes nothing.
+-- `number_loads_among` meets its contract: the loads of the rows that passed stand in the array. Assumes nothing.
 use mathlib.Core.List.{[]}
 use mathlib.Core.Path.{◌≡◌, ap}
 use native.Mathlib.Omega.{arith}
@@ -9,7 +9,7 @@ use Rattle.feeder.specs.Network.{no_load, no_load_row}
 use Rattle.feeder.specs.NetworkLaws.{blank-kept}
 use Rattle.integers.specs.Machine.{read}
 use Rattle.names.specs.Numbering.{filled_all, filled_next, load-row}
-use Rattle.names.proofs.number_loads.Goals as goal
+use Rattle.names.proofs.number_loads_among.Goals as goal
 
 pub loop-i-init : goal.loop-i-init
 loop-i-init c = λ r e n b. rw (b, blank-kept no_load 300)

@@ -1,4 +1,4 @@
--- `limits::first_load_out` meets its contract: the rows are tested one after the other. Assumes nothing.
+-- `limits::first_load_out_behind` meets its contract: the rows are tested one after the other. Assumes nothing.
 use mathlib.Core.Bool.{not}
 use mathlib.Core.List.{List}
 use mathlib.Core.Path.{◌≡◌, ◌∙◌, ap, sym}
@@ -10,8 +10,8 @@ use Rattle.feeder.specs.Feeder.{load_in}
 use Rattle.feeder.specs.Network.{kept, no_load_row}
 use Rattle.feeder.specs.declared.LoadRow.{LoadRow}
 use Rattle.limits.specs.FirstRow.{load_out, found_none, found-row, kept-row, pass-row}
-use Rattle.limits.proofs.first_load_out.Goals as goal
-use Rattle.limits.proofs.first_load_out.Goals.{After-load_in, At-loop-k}
+use Rattle.limits.proofs.first_load_out_behind.Goals as goal
+use Rattle.limits.proofs.first_load_out_behind.Goals.{After-load_in, At-loop-k}
 
 abbrev head : After-load_in → At-loop-k
 head c = (goal.at.After-load_in c).At-loop-k

@@ -1,4 +1,4 @@
--- `number_loads` meets its contract: the loads of the rows that passed stand in the array. Assumes nothing.
+-- `number_loads_among` meets its contract: the loads of the rows that passed stand in the array. Assumes nothing.
 use mathlib.Core.List.{[]}
 use mathlib.Core.Path.{◌≡◌}
 use lib.ListN.{length, replicate, take}
@@ -6,7 +6,7 @@ use Rattle.feeder.specs.Feeder.{load_of}
 use Rattle.feeder.specs.Layout.{Rows}
 use Rattle.feeder.specs.Network.{kept, no_load, no_load_row}
 use Rattle.names.specs.Numbering.{filled}
-use Rattle.names.proofs.number_loads.Given as goal
+use Rattle.names.proofs.number_loads_among.Given as goal
 
 abbrev pub invariant-loop-i : goal.invariant-loop-i
 invariant-loop-i l =
