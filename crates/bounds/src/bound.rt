@@ -126,5 +126,5 @@ pub fn bounds_on(
     reported: &Threes,
     bounds: &mut Solution,
 ) -> Option<f64> {
-    bounds_on_feeder(Feeder::of(network), solved, reported, bounds)
+    bounds_on_feeder(Feeder::from(network), solved, reported, bounds)
 }

@@ -16,9 +16,9 @@ pub struct Feeder<'a> {
     pub order: &'a [usize],
 }
 
-impl Feeder<'_> {
-    // What the floats are given of a feeder in memory: of its load rows and of its order of work, those that it has.
-    pub fn of(network: &Network) -> Feeder<'_>
+// Of a feeder in memory the floats are given those load rows and that part of the order of work that it has.
+impl<'a> From<&'a Network> for Feeder<'a> {
+    fn from(network: &'a Network) -> Feeder<'a>
         ensures source { result.source ≡ network.now.source }
         ensures tol { result.tol ≡ network.now.tol }
         ensures branches { result.branches.now ≡ network.now.branches }
@@ -155,7 +155,7 @@ pub fn sweep_feeder(
 
 // One sweep of a feeder in memory.
 pub fn sweep(network: &Network, quantity: Quantity, source: Phasors, s: &mut Solution) -> bool {
-    sweep_feeder(Feeder::of(network), quantity, source, s)
+    sweep_feeder(Feeder::from(network), quantity, source, s)
 }
 
 // The solution, if 1,000 sweeps are enough. The answer is the number of sweeps. Regulators have the taps that the branches hold.
@@ -173,5 +173,5 @@ pub fn solve_feeder(feeder: Feeder<'_>, s: &mut Solution) -> Option<usize> {
 
 // The solution of a feeder in memory.
 pub fn solve(network: &Network, s: &mut Solution) -> Option<usize> {
-    solve_feeder(Feeder::of(network), s)
+    solve_feeder(Feeder::from(network), s)
 }

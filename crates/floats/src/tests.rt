@@ -1,6 +1,6 @@
 // One line of 1 Ω on A, from 2,400 V to a load with the impedance of 3 Ω: 1,800 V at the load and 600 A, by hand. What stands behind the last rows is not read.
 use crate::component::Quantity;
-use crate::phasor::{Phasor, Phasors, Solution, ZERO, real};
+use crate::phasor::{Phasor, Phasors, Solution, ZERO};
 use crate::solver::{Feeder, solve, solve_feeder, sweep};
 use feeder::{Branch, Device, LineZ, Load, LoadKind, Network, PerPhase, Terminals};
 use integers::Pair;
@@ -53,9 +53,11 @@ fn one_line() -> Network {
 }
 
 fn on_a(x: i64) -> Phasors {
-    let mut each = PerPhase::same(ZERO);
-    each.a.re = real(x);
-    each
+    PerPhase {
+        a: Phasor::from(pair(x)),
+        b: ZERO,
+        c: ZERO,
+    }
 }
 
 fn near(x: Phasors, y: Phasors) -> bool {
@@ -74,7 +76,7 @@ fn a_line_and_a_load_are_solved(rt: HostRuntime) {
     assert!(rt; near(s.currents[1], on_a(600_000)), "the line");
     assert!(rt; near(s.voltages[2], on_a(0)), "behind the last node");
     let mut same = Solution::zero();
-    assert_eq!(rt; solve_feeder(Feeder::of(&network), &mut same), sweeps);
+    assert_eq!(rt; solve_feeder(Feeder::from(&network), &mut same), sweeps);
 }
 
 #[test]

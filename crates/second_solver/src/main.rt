@@ -55,7 +55,7 @@ fn print_both(rt: &impl Print, voltages: Compared, currents: Compared) {
 
 // The line of a feeder with a report, behind its name. The branches hold the reported taps.
 fn try_report(rt: &impl Print, network: &Network, report: &ReportArrays) {
-    let feeder = Feeder::of(network);
+    let feeder = Feeder::from(network);
     let mut solved = Solution::zero();
     if solve_feeder(feeder, &mut solved).is_none() {
         print(rt, b" OVER: the floats do not settle\n");
@@ -97,7 +97,7 @@ fn print_sweeps(rt: &impl Print, limit: usize, sweeps: usize) {
 // The line of a feeder that the study leaves unsettled (34), behind its name. The floats have the taps of the first round, so it is for feeders that have no
 // level above 0.
 fn try_unsettled(rt: &impl Print, network: &Network) {
-    match solve_feeder(Feeder::of(network), &mut Solution::zero()) {
+    match solve_feeder(Feeder::from(network), &mut Solution::zero()) {
         Some(sweeps) => print_sweeps(rt, network.limit, sweeps),
         None => {
             print(rt, b" is not settled (34), nor are the floats\n");
