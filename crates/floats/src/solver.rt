@@ -16,7 +16,7 @@ pub struct Feeder<'a> {
     pub order: &'a [usize],
 }
 
-// Of a feeder in memory the floats are given those load rows and that part of the order of work that it has.
+// Of a feeder in memory the floats are given the load rows that it has, and the order of work behind the source.
 impl<'a> From<&'a Network> for Feeder<'a> {
     fn from(network: &'a Network) -> Feeder<'a>
         ensures source { result.source ≡ network.now.source }
